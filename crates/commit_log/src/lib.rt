@@ -1,0 +1,13 @@
+//! The book: the list of all that happened, from which everything that is claimed of a run is told.
+//!
+//! It stands on `hops_base` and `name_space`. It promises that a push with room appends one note and
+//! takes no memory, and that the notes can be read by their numbers, which count from 0.
+#![tactic(auto)]
+
+mod book;
+mod note;
+#[cfg(test)]
+mod tests;
+
+pub use book::Book;
+pub use note::{Cause, Ended, Note, Work};

@@ -1,0 +1,31 @@
+//! What a session has read.
+
+use hops_base::{InodeId, ItemList, Key, Path};
+use inode_table::Inode;
+
+/// What was read for one path of a call.
+#[derive(Debug, Drop)]
+pub struct Place {
+    pub path: Path,
+    /// The rows from the root's on, each under the one before, up to the end of the path, its first
+    /// missing name or a file.
+    pub found: FoundList,
+    /// The key of the first missing name. None where the path was found whole, or a file stands in its way.
+    pub missing: Option<Key>,
+    /// Whether the last row found has a child.
+    pub has_child: bool,
+}
+
+/// Rows with their keys.
+pub type FoundList = ItemList<(Key, Inode)>;
+
+/// One place for each path of a call.
+pub type PlaceList = ItemList<Place>;
+
+/// What a session has read for its call, from which alone the call is answered.
+#[derive(Debug, Drop)]
+pub struct View {
+    pub places: PlaceList,
+    /// The next free inode id.
+    pub next: InodeId,
+}

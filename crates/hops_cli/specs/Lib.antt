@@ -1,0 +1,5 @@
+pub mod Ends
+pub mod Running
+pub mod Status
+pub mod Transfer
+pub mod Words

@@ -1,0 +1,51 @@
+-- Which calls are run, and what a resolution finds. This project's own.
+use Rattle.std.specs.Prelude.{◌≡◌, ℕ, ◌+◌, ◌-◌, ◌<◌, ◌≤◌, Bool, true, false, ◌&&◌, nat_le, List, length, slice_get, IfSome}
+use Rattle.hops_base.specs.Roomy.{Roomy}
+use Rattle.hops_base.specs.declared.key.Key.{Key}
+use Rattle.inode_table.specs.declared.inode.Inode.{Inode}
+use Rattle.std.specs.List.{list_all}
+use Rattle.name_space.specs.declared.call.Call.{Call}
+use Rattle.name_space.specs.declared.call.Call.TheVariants as call
+use Rattle.hops_base.specs.Path.{is_short}
+use Rattle.db_state.specs.declared.view.Place.{Place}
+use Rattle.inode_ops.specs.Outcomes.{CanMake}
+use Rattle.hops_cli.specs.declared.small_form.ClientCalls.{ClientCalls}
+
+-- the call is of a kind that is built, and its path is short
+abbrev pub is_runnable : Call → Bool
+is_runnable (call.Mkdirs path) = is_short path
+is_runnable (call.Stat path) = is_short path
+is_runnable (call.Create path overwrite) = false
+is_runnable (call.Append path) = false
+is_runnable (call.Grow path bytes) = false
+is_runnable (call.Close path) = false
+is_runnable (call.List path) = false
+is_runnable (call.Delete path recursive) = false
+is_runnable (call.Rename source target) = false
+is_runnable (call.Chmod path mode) = false
+is_runnable (call.SetQuota path names bytes) = false
+is_runnable (call.Usage path) = false
+
+-- so are all these calls, which are not too many
+abbrev pub are_runnable_calls : List Call → Bool
+are_runnable_calls calls = nat_le (length calls) 65536 && list_all is_runnable calls
+
+-- so are all calls of a client
+abbrev pub is_runnable_client : ClientCalls → Bool
+is_runnable_client client = are_runnable_calls client.calls.items
+
+-- the clients are not too many, and neither are their calls, all of which are runnable
+pub record AreRunnable (clients : List ClientCalls) : Type 0 where
+  pub few : length clients ≤ 64
+  pub calls : list_all is_runnable_client clients ≡ true
+
+-- after i names the rows found are the root's and at most one for each, with room for so many, and the last has an id
+pub record IsFoundSoFar (i next most : ℕ) (found : Roomy (Key × Inode)) : Type 0 where
+  pub some : 1 ≤ length found.items
+  pub within : length found.items ≤ i + 1
+  pub room : most ≤ found.room
+  pub last : IfSome (slice_get found.items (length found.items - 1)) (λ pair. (1 ≤ pair.1.id.0) × (pair.1.id.0 < next))
+
+-- the place is one of the path, over rows whose ids are below the next
+abbrev pub IsResolved : List (List ℕ) → ℕ → Place → Type 0
+IsResolved path next place = (place.path ≡ path) × CanMake place next

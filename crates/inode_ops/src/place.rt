@@ -1,0 +1,25 @@
+//! What a place tells of its path.
+
+ghost use Rattle.std.specs.Prelude.{◌≡◌, ◌≤◌, length, option_copied};
+ghost use Rattle.inode_ops.specs.Outcomes.{deepest, is_whole};
+
+use db_state::Place;
+use inode_table::Inode;
+
+/// Whether the path was found whole.
+pub fn is_whole(place: &Place) -> bool
+    ensures { result ≡ is_whole place.now }
+{
+    place.path.len() < place.found.len()
+}
+
+/// The last row found.
+pub fn deepest(place: &Place) -> &Inode
+    requires { 1 ≤ length place.now.found.items }
+    ensures { deepest place.now ≡ Some result.now }
+{
+    match place.found.as_slice().last() {
+        Some(found) => &found.1,
+        None => unreachable!(),
+    }
+}

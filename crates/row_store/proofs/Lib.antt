@@ -1,0 +1,4 @@
+pub mod ChildLemmas
+pub mod ReadyLemmas
+pub mod SlotLemmas
+pub mod TableLemmas
