@@ -1,0 +1,4 @@
+pub mod AnswerLemmas
+pub mod BesideDeleteLemmas
+pub mod CutOffLemmas
+pub mod FirstScriptLemmas

@@ -1,13 +1,18 @@
 //! The book: the list of all that happened, from which everything that is claimed of a run is told.
 //!
 //! It stands on `hops_base` and `name_space`. It promises that a push with room appends one note and
-//! takes no memory, and that the notes can be read by their numbers, which count from 0.
+//! takes no memory, and that the notes can be read by their numbers, which count from 0. Laws and worked
+//! books show what the words mean by which a book is judged.
 #![tactic(auto)]
 
+mod answer;
 mod book;
+pub mod laws;
 mod note;
+pub mod rows;
 #[cfg(test)]
 mod tests;
 
+pub use answer::{AnswerLine, CallEnd};
 pub use book::Book;
 pub use note::{Cause, Ended, Note, Work};

@@ -14,8 +14,9 @@ pub enum Note {
     Gave(SessionId),
     /// The session has committed a step of a subtree operation.
     Wrote(SessionId, Work),
-    /// The answering commit of the client's call of this number: the call, how many rows its resolution
-    /// read, and the reply. It gives back all locks of the session, ends its flag and ends the session.
+    /// The answering commit of the client's call of this number: the call, how many reads its resolutions
+    /// made over all attempts, and the reply. It gives back all locks of the session, ends its flag and ends
+    /// the session.
     Did(SessionId, ClientNo, u32, Call, u64, Reply),
     /// These paths below the operation's path are removed from the history's namespace.
     Cut(OpId, Path, PathList),

@@ -1,2 +1,6 @@
+pub mod ChainLaws
 pub mod IdLemmas
+pub mod OpeningLaws
+pub mod PathLaws
 pub mod PlaceLemmas
+pub mod StandLaws

@@ -1,6 +1,8 @@
 pub mod Devices
+pub mod First
 pub mod Key
 pub mod Name
 pub mod Path
 pub mod Roomy
+pub mod Tells
 pub mod User

@@ -1,0 +1,9 @@
+pub mod CallLaws
+pub mod DirLaws
+pub mod GrantedLaws
+pub mod KeepLaws
+pub mod PlainLaws
+pub mod QuotaLaws
+pub mod RenameLaws
+pub mod RunLaws
+pub mod UsageLaws

@@ -1,1 +1,15 @@
 pub mod Call
+pub mod Calls
+pub mod Cut
+pub mod Laws
+pub mod MoveLaws
+pub mod Namespace
+pub mod NamespaceLaws
+pub mod PathLaws
+pub mod Plain
+pub mod PrefixLaws
+pub mod Quota
+pub mod Rename
+pub mod Rows
+pub mod Script
+pub mod UsageLaws

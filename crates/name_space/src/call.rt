@@ -21,7 +21,7 @@ pub enum Call {
     Close(Path),
     /// Asks for the status of a file or directory.
     Stat(Path),
-    /// Asks for the children of a directory.
+    /// Asks for the children of a directory, or for a file alone.
     List(Path),
     /// Removes a file or a directory. The truth value allows children to go with it.
     Delete(Path, bool),

@@ -30,14 +30,14 @@ pub enum FileStatus {
     File { len: u64, mode: u16, owner: User },
 }
 
-/// One child in a listing.
+/// One line of a listing.
 #[derive(Debug, Drop)]
 pub struct Listed {
     pub name: Name,
     pub status: FileStatus,
 }
 
-/// The children of a directory, in the byte order of their names.
+/// What `list` tells: the children of a directory in the byte order of their names, or a file alone.
 pub type Listing = ItemList<Listed>;
 
 impl Entry {

@@ -1,4 +1,4 @@
-use Rattle.std.proofs.Common.{◌<◌, ◌≤◌, length, take, arith, length-take}
+use Rattle.std.proofs.Common.{◌<◌, ◌≤◌, length, arith, length-take}
 use Rattle.name_space.proofs.entry.copy_listing.Goals as goal
 
 pub push-requires : goal.push-requires

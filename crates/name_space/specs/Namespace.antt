@@ -1,0 +1,106 @@
+-- The plain namespace: what stands at which path. After the Hadoop file system specification; the opening one is this
+-- project's own.
+use Rattle.std.specs.Prelude.{◌≡◌, ℕ, ◌+◌, Bool, true, false, not, ◌&&◌, ◌==◌, List, [], ◌∷◌, ◌++◌, map, length, codes, Option, Some, None, IsSome, is_some}
+use Rattle.std.specs.List.{filter, filter_map, last_or, list_all, starts_with, sum_by}
+use Rattle.std.specs.FinMap.Entries as map
+use Rattle.hops_base.specs.Name.{is_name, same_name}
+use Rattle.hops_base.specs.Path.{path_cmp}
+use Rattle.name_space.specs.declared.entry.Entry.{Entry}
+use Rattle.name_space.specs.declared.entry.Entry.TheVariants.{Dir, File}
+
+-- the names from the root on
+abbrev pub Path : Type 0
+Path = List (List ℕ)
+
+-- a finite map from paths to entries, as the list of its pairs in the order of the paths. The root is the empty path
+abbrev pub Namespace : Type 0
+Namespace = List (Path × Entry)
+
+-- what stands at a path
+abbrev pub entry_at : Namespace → Path → Option Entry
+entry_at space path = map.find path_cmp path space
+
+-- something stands there
+abbrev pub exists : Namespace → Path → Bool
+exists space path = is_some (entry_at space path)
+
+-- it is a directory
+abbrev pub is_dir : Option Entry → Bool
+is_dir None = false
+is_dir (Some (Dir mode owner max_names max_bytes)) = true
+is_dir (Some (File len writer mode owner)) = false
+
+-- it is a file
+abbrev pub is_file : Option Entry → Bool
+is_file None = false
+is_file (Some (Dir mode owner max_names max_bytes)) = false
+is_file (Some (File len writer mode owner)) = true
+
+-- a new directory of this owner
+abbrev pub new_dir : List ℕ → Entry
+new_dir owner = Dir 493 owner None None
+
+-- before any call: the root alone, whose owner is hdfs
+abbrev pub opening : Namespace
+opening = ([], new_dir (codes "hdfs")) ∷ []
+
+-- with this entry at the path, in place of what stood there
+abbrev pub with_entry : Namespace → Path → Entry → Namespace
+with_entry space path entry = map.put path_cmp path entry space
+
+-- with each of these entries at its path
+abbrev pub with_entries : Namespace → List (Path × Entry) → Namespace
+with_entries space [] = space
+with_entries space (e ∷ es) = with_entries (with_entry space e.0 e.1) es
+
+-- the path is the top or lies below it: it has the top as a prefix
+abbrev pub is_within : Path → Path → Bool
+is_within top path = starts_with same_name path top
+
+-- what stands at a path and below it
+abbrev pub below : Namespace → Path → Namespace
+below space top = filter (λ (e : Path × Entry). is_within top e.0) space
+
+-- what doesn't
+abbrev pub without : Namespace → Path → Namespace
+without space top = filter (λ (e : Path × Entry). not (is_within top e.0)) space
+
+-- what stands one name below a path
+abbrev pub children : Namespace → Path → Namespace
+children space top = filter (λ (e : Path × Entry). is_within top e.0 && (length e.0 == length top + 1)) space
+
+-- the bytes that an entry counts: a file its length, a directory none
+abbrev pub bytes_of : Entry → ℕ
+bytes_of (Dir mode owner max_names max_bytes) = 0
+bytes_of (File len writer mode owner) = len
+
+-- the usage of a path: how many names are there, itself counted, and how many bytes
+abbrev pub used_names : Namespace → Path → ℕ
+used_names space top = length (below space top)
+
+abbrev pub used_bytes : Namespace → Path → ℕ
+used_bytes space top = sum_by (λ (e : Path × Entry). bytes_of e.1) (below space top)
+
+-- the paths above a path, from the root on: its proper prefixes
+abbrev pub above : Path → List Path
+above [] = []
+above (name ∷ names) = [] ∷ map (λ (up : Path). name ∷ up) (above names)
+
+-- these and the path itself
+abbrev pub prefixes : Path → List Path
+prefixes path = above path ++ path ∷ []
+
+-- the prefixes that are missing, from the top on
+abbrev pub missing : Namespace → Path → List Path
+missing space path = filter (λ (up : Path). not (exists space up)) (prefixes path)
+
+-- what stands at the longest prefix that exists
+abbrev pub nearest : Namespace → Path → Option Entry
+nearest space path = last_or None (filter_map (entry_at space) (prefixes path))
+
+-- the paths rise, their names are names, the root is a directory, and so is what stands above every other path
+pub record IsNamespace (space : Namespace) : Type 0 where
+  pub rises : map.is_sorted path_cmp space ≡ true
+  pub names : list_all (λ (e : Path × Entry). list_all is_name e.0) space ≡ true
+  pub root : is_dir (entry_at space []) ≡ true
+  pub parents : (up : Path) (name : List ℕ) → IsSome (entry_at space (up ++ name ∷ [])) → is_dir (entry_at space up) ≡ true

@@ -1,0 +1,36 @@
+-- What a quota row answers, and quota rows as stored values.
+use Rattle.std.specs.Prelude.{◌≡◌, ℕ, Bool, true, false, Option, Some, None, refl}
+use Rattle.std.specs.Coded.{Coded, code_by, coded×, coded_ℕ, coded_option}
+use Rattle.name_space.specs.Quota.{exceeds}
+use Rattle.row_store.specs.Table.{Table, coded_table}
+use Rattle.quota_table.specs.declared.quota.QuotaRow.{QuotaRow}
+use Rattle.quota_table.specs.declared.quota.Fit.{Fit}
+use Rattle.quota_table.specs.declared.quota.Fit.TheVariants.{Fits, Names, Bytes}
+
+-- there is a limit, and it would be passed
+abbrev pub is_passed : ℕ → ℕ → Option ℕ → Bool
+is_passed used more None = false
+is_passed used more (Some limit) = exceeds used more limit
+
+-- the limit is this one, and it would be passed; what is used is told
+abbrev pub IsPassed : ℕ → ℕ → Option ℕ → ℕ → ℕ → Type 0
+IsPassed used more limit told_used told_limit = (limit ≡ Some told_limit) × (told_used ≡ used) × (exceeds used more told_limit ≡ true)
+
+-- what is answered to so many names and bytes more: names first, then bytes
+abbrev pub Answers : QuotaRow → ℕ → ℕ → Fit → Type 0
+Answers row names bytes Fits = (is_passed row.used_names names row.max_names ≡ false) × (is_passed row.used_bytes bytes row.max_bytes ≡ false)
+Answers row names bytes (Names used limit) = IsPassed row.used_names names row.max_names used limit
+Answers row names bytes (Bytes used limit) = (is_passed row.used_names names row.max_names ≡ false) × IsPassed row.used_bytes bytes row.max_bytes used limit
+
+-- a quota row is stored as its fields
+abbrev pub coded_quota : Coded QuotaRow
+coded_quota = code_by
+    (Option ℕ × (Option ℕ × (ℕ × ℕ)))
+    (coded× (coded_option coded_ℕ) (coded× (coded_option coded_ℕ) (coded× coded_ℕ coded_ℕ)))
+    (λ q. (q.max_names, (q.max_bytes, (q.used_names, q.used_bytes))))
+    (λ p. record { max_names = p.0; max_bytes = p.1.0; used_names = p.1.1.0; used_bytes = p.1.1.1 })
+    (λ _. refl)
+
+-- the table of quotas is stored as its rows and ready keys
+abbrev pub coded_quotas : Coded (Table QuotaRow)
+coded_quotas = coded_table coded_quota

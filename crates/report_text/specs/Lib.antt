@@ -1,0 +1,7 @@
+pub mod Keys
+pub mod Replies
+pub mod Entries
+pub mod Notes
+pub mod Answers
+pub mod Report
+pub mod Rows

@@ -1,0 +1,4 @@
+mod Canonical
+mod Exact
+pub mod Literals
+mod OneScript

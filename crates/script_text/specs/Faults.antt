@@ -1,0 +1,164 @@
+-- What is wrong with bytes that are no script: the first of these rules that they break. This project's own.
+use Prim.Native.String.{String}
+use Rattle.std.specs.Prelude.{ℕ, Bool, true, false, not, ◌&&◌, ◌==◌, nat_le, if◌then◌else◌, List, [], ◌∷◌, map, length, take, find, Option, Some, None, is_some, option_map, option_and_then, unwrap_or, bytes_eq, codes}
+use Rattle.std.specs.List.{list_all, list_any, enumerate_from}
+use Rattle.std.specs.Option.{option_map_or, option_zip}
+use Rattle.std.specs.Str.{is_utf8}
+use Rattle.hops_base.specs.First.{first_some}
+use Rattle.hops_base.specs.User.{is_user}
+use Rattle.hops_base.specs.declared.ids.NodeNo.{NodeNo}
+use Rattle.hops_base.specs.declared.path_text.PathFault.{PathFault}
+use Rattle.name_space.specs.Script.{is_count, is_stop}
+use Rattle.serde_json.specs.Data.{Data, Members}
+use Rattle.serde_json.specs.Find.{as_bool, as_str, as_array, as_object}
+use Rattle.serde_json.specs.Read.{read}
+use Rattle.script_text.specs.declared.fault.ScriptFault.{ScriptFault}
+use Rattle.script_text.specs.Json.{values_of, values_in, keys_of, at_key, as_whole, is_within}
+use Rattle.script_text.specs.CallForms.{has_form, refused_path, has_range}
+
+-- the fault by a rule at a place and a call; no path is refused
+abbrev pub fault : ℕ → ℕ → ℕ → ScriptFault
+fault rule at call = record { rule = rule; at = at; call = call; path = None }
+
+-- the fault, where the rule doesn't hold
+abbrev pub unless : Bool → ScriptFault → Option ScriptFault
+unless holds told = if holds then None else Some told
+
+-- there is a value at the key, and it passes the test
+abbrev pub has : String → (Data → Bool) → Members → Bool
+has key test ms = option_map_or test (at_key key ms) false
+
+-- where there is a value at the key, it passes the test
+abbrev pub may_have : String → (Data → Bool) → Members → Bool
+may_have key test ms = option_map_or test (at_key key ms) true
+
+-- an array of at most so many values
+abbrev pub is_short_array : ℕ → Data → Bool
+is_short_array most value = option_map_or (λ items. nat_le (length (values_of items)) most) (as_array value) false
+
+-- the values in the array at a key
+abbrev pub values_at : String → Members → List Data
+values_at key ms = option_map_or values_in (at_key key ms) []
+
+-- ---- the calls of a client, numbered from 1
+
+-- the fault of a path that is refused
+abbrev pub bad_path : ℕ → ℕ → PathFault → ScriptFault
+bad_path at call why = record { rule = 15; at = at; call = call; path = Some why }
+
+-- what is wrong with a client's call: the first of rules 14, 15 and 16
+abbrev pub call_fault : ℕ → ℕ × Data → Option ScriptFault
+call_fault at (call, value) = first_some (unless (has_form value) (fault 14 at call) ∷ option_map (bad_path at call) (refused_path value) ∷ unless (has_range value) (fault 16 at call) ∷ [])
+
+-- ---- the clients, numbered from 0
+
+-- rule 11: it has a user and calls, and nothing else
+abbrev pub has_both_keys : Members → Bool
+has_both_keys ms = is_some (at_key "user" ms) && is_some (at_key "calls" ms) && length (keys_of ms) == 2
+
+-- rule 12: the user of a client is one
+abbrev pub has_user : Members → Bool
+has_user = has "user" (λ value. option_map_or is_user (as_str value) false)
+
+-- rule 13: the calls of a client are an array of at most 65,536
+abbrev pub has_calls : Members → Bool
+has_calls = has "calls" (is_short_array 65536)
+
+-- what is wrong with the members of a client: the first of rules 11, 12 and 13, and then the first bad call
+abbrev pub client_members_fault : ℕ → Members → Option ScriptFault
+client_members_fault at ms = first_some (unless (has_both_keys ms) (fault 11 at 0) ∷ unless (has_user ms) (fault 12 at 0) ∷ unless (has_calls ms) (fault 13 at 0) ∷ first_some (map (call_fault at) (enumerate_from 1 (values_at "calls" ms))) ∷ [])
+
+-- what is wrong with a client; it breaks rule 11 also where it is no object
+abbrev pub client_fault : ℕ × Data → Option ScriptFault
+client_fault (at, value) = option_map_or (client_members_fault at) (as_object value) (Some (fault 11 at 0))
+
+-- ---- the stops
+
+-- the namenode and the commit of an array of two whole numbers
+abbrev pub stop_from : List Data → Option (NodeNo × ℕ)
+stop_from [] = None
+stop_from (node ∷ []) = None
+stop_from (node ∷ commit ∷ []) = option_zip (option_map (λ n. record { 0 = n }) (as_whole node)) (as_whole commit)
+stop_from (node ∷ commit ∷ other ∷ rest) = None
+
+-- the stop that a value is
+abbrev pub stop_of : Data → Option (NodeNo × ℕ)
+stop_of value = stop_from (values_in value)
+
+-- the value is a stop of this namenode
+abbrev pub stops_node : NodeNo → Data → Bool
+stops_node node value = option_map_or (λ (stop : NodeNo × ℕ). stop.0.0 == node.0) (stop_of value) false
+
+-- rule 9: the value is a stop in its ranges, and none of those before it is of its namenode
+abbrev pub is_next_stop : ℕ → List Data → Data → Bool
+is_next_stop namenodes before value = option_map_or (λ (stop : NodeNo × ℕ). is_stop namenodes stop && not (list_any (stops_node stop.0) before)) (stop_of value) false
+
+-- the place of the first value that breaks this rule
+abbrev pub bad_stop : ℕ → List Data → Option ℕ
+bad_stop namenodes values = option_map (λ (p : ℕ × Data). p.0) (find (λ (p : ℕ × Data). not (is_next_stop namenodes (take p.0 values) p.1)) (enumerate_from 0 values))
+
+-- what is wrong with stops: they break rule 9, also where they are no array
+abbrev pub stops_fault : ℕ → Data → Option ScriptFault
+stops_fault namenodes value = option_map_or (λ items. option_map (λ at. fault 9 at 0) (bad_stop namenodes (values_of items))) (as_array value) (Some (fault 9 0 0))
+
+-- ---- the script
+
+-- the keys that a script may have
+abbrev pub script_keys : List (List ℕ)
+script_keys = map codes ("clients" ∷ "grace" ∷ "namenodes" ∷ "persist" ∷ "stops" ∷ "tries" ∷ "version" ∷ [])
+
+-- rule 3: every key is one of them
+abbrev pub has_known_keys : Members → Bool
+has_known_keys ms = list_all (λ key. list_any (bytes_eq key) script_keys) (keys_of ms)
+
+-- rule 4: the version is 1
+abbrev pub has_version : Members → Bool
+has_version = has "version" (is_within 1 1)
+
+-- rule 5: there are 1 to 16 namenodes
+abbrev pub has_namenodes : Members → Bool
+has_namenodes = has "namenodes" (is_within 1 16)
+
+-- rules 6 and 7, of tries and grace: where the key is there, its value is a count
+abbrev pub may_count : String → Members → Bool
+may_count key = may_have key (λ value. option_map_or is_count (as_whole value) false)
+
+-- rule 8: where it is said whether calls persist, it is by a truth value
+abbrev pub may_persist : Members → Bool
+may_persist = may_have "persist" (λ value. is_some (as_bool value))
+
+-- how many namenodes a script has
+abbrev pub namenodes_in : Members → ℕ
+namenodes_in ms = unwrap_or (option_and_then as_whole (at_key "namenodes" ms)) 0
+
+-- rule 10: the clients are an array of at most 64
+abbrev pub has_clients : Members → Bool
+has_clients = has "clients" (is_short_array 64)
+
+-- what is wrong with the members of a script: the first of rules 3 to 10, and then the first bad client
+abbrev pub members_fault : Members → Option ScriptFault
+members_fault ms =
+    first_some (
+    unless (has_known_keys ms) (fault 3 0 0)
+    ∷ unless (has_version ms) (fault 4 0 0)
+    ∷ unless (has_namenodes ms) (fault 5 0 0)
+    ∷ unless (may_count "tries" ms) (fault 6 0 0)
+    ∷ unless (may_count "grace" ms) (fault 7 0 0)
+    ∷ unless (may_persist ms) (fault 8 0 0)
+    ∷ option_and_then (stops_fault (namenodes_in ms)) (at_key "stops" ms)
+    ∷ unless (has_clients ms) (fault 10 0 0)
+    ∷ first_some (map client_fault (enumerate_from 0 (values_at "clients" ms)))
+    ∷ []
+    )
+
+-- what is wrong with a value; rule 2: it is an object
+abbrev pub data_fault : Data → Option ScriptFault
+data_fault value = option_map_or members_fault (as_object value) (Some (fault 2 0 0))
+
+-- the value of JSON that bytes are: UTF-8, with arrays and objects nested to 127
+abbrev pub value_of : List ℕ → Option Data
+value_of bytes = if is_utf8 bytes then read bytes else None
+
+-- what is wrong with bytes as a script; rule 1: they are a value
+abbrev pub script_fault : List ℕ → Option ScriptFault
+script_fault bytes = option_map_or data_fault (value_of bytes) (Some (fault 1 (length bytes) 0))

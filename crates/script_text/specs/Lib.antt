@@ -1,0 +1,6 @@
+pub mod Json
+pub mod Form
+pub mod CallForms
+pub mod Faults
+pub mod Grammar
+pub mod Rows
