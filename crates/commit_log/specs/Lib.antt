@@ -13,6 +13,9 @@ pub mod Legal
 pub mod Licensed
 pub mod LockLaws
 pub mod Locks
+pub mod NumberLaws
+pub mod OneClient
+pub mod OneClientLaws
 pub mod OrderLaws
 pub mod Orderly
 pub mod PartLaws

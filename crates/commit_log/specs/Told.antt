@@ -1,6 +1,5 @@
 -- What a checker decides of a report: the whole of what a book, its answers and the last tree tell. This project's own.
 use Rattle.std.specs.Prelude.{◌≡◌, Bool, true, false, List, Option, Some, None, IsSomeAnd}
-use Rattle.std.specs.List.{list_any}
 use Rattle.hops_base.specs.declared.ids.OpId.{OpId}
 use Rattle.name_space.specs.declared.call.OpKind.{OpKind}
 use Rattle.name_space.specs.declared.call.OpKind.TheVariants.{Delete, Rename, Quota}
@@ -10,7 +9,7 @@ use Rattle.commit_log.specs.declared.note.Note.{Note}
 use Rattle.commit_log.specs.declared.note.Note.TheVariants.{Open, Took, Gave, Wrote, Did, Cut, Met, Gone}
 use Rattle.commit_log.specs.declared.answer.AnswerLine.{AnswerLine}
 use Rattle.commit_log.specs.Along.{Each}
-use Rattle.commit_log.specs.Parts.{passes, Opening, opening_of, Flagging, flag_of, loses}
+use Rattle.commit_log.specs.Parts.{Flagging, flag_of, loses}
 use Rattle.commit_log.specs.Orderly.{Orderly, Where}
 use Rattle.commit_log.specs.Legal.{Legal, space}
 use Rattle.commit_log.specs.Locks.{Sound}

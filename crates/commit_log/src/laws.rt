@@ -1,6 +1,6 @@
-//! Laws of what a book says is held, set, there and numbered.
+//! Laws of what a book says is held, set, there and numbered, and of the book of a run of one client.
 
-ghost use Rattle.std.specs.Prelude.{◌≡◌, ◌≢◌, ℕ, ◌+◌, Bool, true, false, not, ◌&&◌, ◌||◌, ◌==◌, if◌then◌else◌, List, [], ◌∷◌, ◌++◌, Option, Some, None, is_some};
+ghost use Rattle.std.specs.Prelude.{◌≡◌, ◌≢◌, ℕ, ◌+◌, ◌*◌, Bool, true, false, not, ◌&&◌, ◌||◌, ◌==◌, if◌then◌else◌, List, [], ◌∷◌, ◌++◌, length, Option, Some, None, is_some};
 ghost use Rattle.std.specs.List.{filter, list_any, Contains};
 ghost use Rattle.hops_base.specs.declared.ids.SessionId.{SessionId};
 ghost use Rattle.hops_base.specs.declared.ids.OpId.{OpId};
@@ -10,22 +10,27 @@ ghost use Rattle.hops_base.specs.declared.ids.Mode.TheVariants.{Shared};
 ghost use Rattle.name_space.specs.declared.call.Call.{Call};
 ghost use Rattle.name_space.specs.declared.call.OpKind.{OpKind};
 ghost use Rattle.name_space.specs.declared.reply.Reply.{Reply};
-ghost use Rattle.name_space.specs.Namespace.{Path, exists};
-ghost use Rattle.name_space.specs.Script.{Script};
+ghost use Rattle.name_space.specs.Namespace.{Namespace, Path, exists, opening};
+ghost use Rattle.name_space.specs.Calls as calls;
+ghost use Rattle.name_space.specs.Script.{Script, users_of};
 ghost use Rattle.commit_log.specs.declared.note.Note.{Note};
 ghost use Rattle.commit_log.specs.declared.note.Note.TheVariants.{Gave, Wrote, Did, Gone};
 ghost use Rattle.commit_log.specs.declared.note.Work.TheVariants.{Flag, Reclaim};
 ghost use Rattle.commit_log.specs.declared.note.Ended.{Ended};
 ghost use Rattle.commit_log.specs.Along.{Each};
 ghost use Rattle.commit_log.specs.Parts.{Opening, opened, opens, opening_of, did, Flagging, flagged, flags_op, flag_of, Taking, loses, evicts};
-ghost use Rattle.commit_log.specs.Orderly.{NumberedAt};
-ghost use Rattle.commit_log.specs.Legal.{space, space_after};
+ghost use Rattle.commit_log.specs.Orderly.{NumberedAt, Orderly};
+ghost use Rattle.commit_log.specs.Legal.{applied, Legal, space, space_after};
 ghost use Rattle.commit_log.specs.Locks.{held, is_of, is_at, Sound};
 ghost use Rattle.commit_log.specs.LockLaws.{IsTaken};
 ghost use Rattle.commit_log.specs.Flags.{flags, ends_flag, is_live};
-ghost use Rattle.commit_log.specs.Told.{cut_in};
-ghost use Rattle.commit_log.specs.Kept.{commits_at, commits_of, is_void};
+ghost use Rattle.commit_log.specs.Licensed.{Licensed};
+ghost use Rattle.commit_log.specs.Answers.{Answers};
+ghost use Rattle.commit_log.specs.Told.{Told, cut_in, CutsExplained};
+ghost use Rattle.commit_log.specs.Kept.{commits_at, commits_of, is_void, KeptWithoutLocks};
 ghost use Rattle.commit_log.specs.Ids.{ids, id_at};
+ghost use Rattle.commit_log.specs.OneClient.{Turn, calls_made, replies_told, opens_turn, does_turn, turns_book, turn_line, turns_lines, IsSingleRun};
+ghost use Rattle.commit_log.specs.Samples.{client};
 
 /// A lock is held exactly where it was taken and nothing after that gave it back.
 pub fn locks_are_taken_and_not_given_back()
@@ -78,4 +83,38 @@ pub fn namenodes_are_counted_and_lost()
     ensures commits { (notes : List Note) (note : Note) (node : NodeNo) → commits_of (notes ++ note ∷ []) node ≡ commits_of notes node + (if commits_at notes node note then 1 else 0) }
     ensures void { (notes : List Note) (note : Note) (s : SessionId) (o : Opening) → opening_of notes s ≡ Some o → is_void (notes ++ note ∷ []) s ≡ (is_void notes s || loses o.node note) }
     ensures live { (notes : List Note) (note : Note) (flag : Flagging) (o : Opening) → opening_of notes flag.session ≡ Some o → list_any (flags_op flag.op) notes ≡ true → is_live (notes ++ note ∷ []) flag ≡ (is_live notes flag && not (evicts o.node note)) }
+{}
+
+/// One turn more writes its two notes and its line behind those of the turns before. The book stays legal
+/// where the reply is that of the call on the last namespace, and that of the call is the last one then.
+pub fn turns_come_one_after_another()
+    ensures notes { (turns : List Turn) (turn : Turn) → turns_book 0 (turns ++ turn ∷ []) ≡ turns_book 0 turns ++ opens_turn (length turns + 1) ∷ does_turn (length turns + 1) turn ∷ [] }
+    ensures lines { (turns : List Turn) (turn : Turn) → turns_lines 0 (turns ++ turn ∷ []) ≡ turns_lines 0 turns ++ turn_line (length turns) turn ∷ [] }
+    ensures count { (n : ℕ) (turns : List Turn) → length (turns_book n turns) ≡ 2 * length turns }
+    ensures legal { (users : List (List ℕ)) (turns : List Turn) (turn : Turn) → Legal users (turns_book 0 turns) → calls.as_read turn.reply ≡ (applied users (space users (turns_book 0 turns)) (client 0) turn.call).reply → Legal users (turns_book 0 (turns ++ turn ∷ [])) }
+    ensures space { (users : List (List ℕ)) (turns : List Turn) (turn : Turn) → space users (turns_book 0 (turns ++ turn ∷ [])) ≡ (applied users (space users (turns_book 0 turns)) (client 0) turn.call).space }
+{}
+
+/// The book of one client that makes its calls in turn is legal exactly where its replies are those of the
+/// plain calls one after another, and its last namespace is the one after them.
+pub fn a_single_run_answers_as_plain_calls()
+    ensures replies { (user : List ℕ) (turns : List Turn) → Legal (user ∷ []) (turns_book 0 turns) → replies_told turns ≡ calls.replies_of opening (client 0) user (calls_made turns) }
+    ensures legal { (user : List ℕ) (turns : List Turn) → replies_told turns ≡ calls.replies_of opening (client 0) user (calls_made turns) → Legal (user ∷ []) (turns_book 0 turns) }
+    ensures space { (user : List ℕ) (turns : List Turn) → space (user ∷ []) (turns_book 0 turns) ≡ calls.space_after opening (client 0) user (calls_made turns) }
+{}
+
+/// The book and the lines of such a run hold together, whatever it answers.
+pub fn a_single_run_is_in_order()
+    ensures orderly { (script : Script) (turns : List Turn) → IsSingleRun script turns → Orderly script (turns_book 0 turns) }
+    ensures sound { (turns : List Turn) → Sound (turns_book 0 turns) }
+    ensures answers { (script : Script) (turns : List Turn) → IsSingleRun script turns → Answers script (turns_book 0 turns) (turns_lines 0 turns) }
+    ensures licensed { (turns : List Turn) → Licensed (turns_book 0 turns) }
+    ensures explained { (turns : List Turn) → CutsExplained (turns_book 0 turns) }
+{}
+
+/// Where the book is legal too, the run is told by its book, its lines and its last namespace. It keeps what
+/// runs keep before there are locks.
+pub fn a_single_run_is_told()
+    ensures told { (script : Script) (turns : List Turn) (tree : Namespace) → IsSingleRun script turns → Legal (users_of script) (turns_book 0 turns) → tree ≡ space (users_of script) (turns_book 0 turns) → Told script (turns_book 0 turns) (turns_lines 0 turns) tree }
+    ensures kept { (script : Script) (turns : List Turn) → IsSingleRun script turns → KeptWithoutLocks script (turns_book 0 turns) (turns_lines 0 turns) }
 {}

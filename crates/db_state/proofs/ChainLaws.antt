@@ -21,17 +21,17 @@ use Rattle.db_state.proofs.PathLaws.{tree_grown, inserted, new_childless}
 use Rattle.db_state.proofs.StandLaws.{stands_grown, no_quota}
 
 -- the last of reversed names stands at the end
-reverse-push : (name : List ℕ) (dir : List (List ℕ)) → reverse (name ∷ dir) ≡ reverse dir ++ name ∷ []
+pub reverse-push : (name : List ℕ) (dir : List (List ℕ)) → reverse (name ∷ dir) ≡ reverse dir ++ name ∷ []
 reverse-push name dir = reverse-append (name ∷ []) dir
 
 -- the new row's path spells it
-new_spelled : (inodes : Inodes) (next : ℕ) (tree : IsTree inodes next) (dir : List (List ℕ)) (parent : Inode) (name : List ℕ) (new : Inode) (at : spelled inodes dir ≡ Some parent) (none : map.get inodes (key.Inode parent.id name) ≡ None) (free : next ≤ new.id.0)
+pub new_spelled : (inodes : Inodes) (next : ℕ) (tree : IsTree inodes next) (dir : List (List ℕ)) (parent : Inode) (name : List ℕ) (new : Inode) (at : spelled inodes dir ≡ Some parent) (none : map.get inodes (key.Inode parent.id name) ≡ None) (free : next ≤ new.id.0)
     → spelled (map.insert inodes (key.Inode parent.id name) new) (name ∷ dir) ≡ Some new
 new_spelled inodes next tree dir parent name new at none free =
     inserted inodes next tree dir parent name new at none free (name ∷ dir) ∙ (elim (paths_tell (name ∷ dir) (name ∷ dir)) [ inl p ↦ rw p.0 refl | inr p ↦ absurd (p.1 refl) ])
 
 -- nor has it under a new row
-under_new : (names : List (List ℕ)) (inodes : Inodes) (next : ℕ) (tree : IsTree inodes next) (dir : List (List ℕ)) (parent : Inode) (name : List ℕ) (new : Inode) (at : spelled inodes dir ≡ Some parent) (none : map.get inodes (key.Inode parent.id name) ≡ None) (free : next ≤ new.id.0)
+pub under_new : (names : List (List ℕ)) (inodes : Inodes) (next : ℕ) (tree : IsTree inodes next) (dir : List (List ℕ)) (parent : Inode) (name : List ℕ) (new : Inode) (at : spelled inodes dir ≡ Some parent) (none : map.get inodes (key.Inode parent.id name) ≡ None) (free : next ≤ new.id.0)
     → FirstMissing (map.insert inodes (key.Inode parent.id name) new) new.id names
 under_new [] inodes next tree dir parent name new at none free = tt
 under_new (n ∷ names) inodes next tree dir parent name new at none free = new_childless inodes next tree dir parent name new at none free n

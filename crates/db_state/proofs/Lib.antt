@@ -1,5 +1,6 @@
 pub mod ChainLaws
 pub mod IdLemmas
+pub mod NumberLaws
 pub mod OpeningLaws
 pub mod PathLaws
 pub mod PlaceLemmas

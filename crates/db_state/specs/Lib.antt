@@ -1,4 +1,5 @@
 pub mod Codes
+pub mod Counts
 pub mod Current
 pub mod NewDirs
 pub mod Plan

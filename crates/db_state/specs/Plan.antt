@@ -1,6 +1,6 @@
 -- The keys that a call locks, by the rows that were found for its paths. This project's own.
-use Rattle.std.specs.Prelude.{ℕ, ◌+◌, ◌-◌, Bool, ◌&&◌, not, ◌==◌, if◌then◌else◌, List, [], ◌∷◌, ◌++◌, map, length, take, Option, Some, None, option_map, option_to_list}
-use Rattle.std.specs.List.{filter, flat_map, last_or}
+use Rattle.std.specs.Prelude.{ℕ, ◌-◌, Bool, ◌&&◌, not, if◌then◌else◌, List, [], ◌∷◌, ◌++◌, map, length, take, Option, Some, None, option_map, option_to_list, nat_lt, slice_get}
+use Rattle.std.specs.List.{filter, flat_map}
 use Rattle.hops_base.specs.declared.ids.ClientNo.{ClientNo}
 use Rattle.hops_base.specs.declared.ids.Mode.{Mode}
 use Rattle.hops_base.specs.declared.ids.Mode.TheVariants.{Shared, Exclusive}
@@ -16,20 +16,28 @@ use Rattle.db_state.specs.declared.view.Place.{Place}
 abbrev pub where_so : {A : Type 0} → Bool → List A → List A
 where_so test xs = if test then xs else []
 
--- the last row found for a path, and the one before it
+-- the last of a list
+abbrev pub last : {A : Type 0} → List A → Option A
+last xs = slice_get xs (length xs - 1)
+
+-- the last row found for a path with its key, and the one before it
 abbrev pub last_found : Place → Option (Key × Inode)
-last_found place = last_or None place.found.items
+last_found place = last place.found.items
 
 abbrev pub parent_found : Place → Option (Key × Inode)
-parent_found place = last_or None (take (length place.found.items - 1) place.found.items)
+parent_found place = last (take (length place.found.items - 1) place.found.items)
+
+-- the last row found alone
+abbrev pub deepest : Place → Option Inode
+deepest place = option_map (λ (found : Key × Inode). found.1) (last_found place)
 
 -- the path was found whole: there is a row of the root and of each of its names
-abbrev pub is_found : Place → Bool
-is_found place = length place.found.items == length place.path + 1
+abbrev pub is_whole : Place → Bool
+is_whole place = nat_lt (length place.path) (length place.found.items)
 
 -- the row that the path itself has
 abbrev pub own_row : Place → Option Inode
-own_row place = if is_found place then option_map (λ (r : Key × Inode). r.1) (last_found place) else None
+own_row place = if is_whole place then deepest place else None
 
 -- the key of the last row found
 abbrev pub low : Place → List Key
@@ -41,7 +49,7 @@ next place = option_to_list place.missing
 
 -- the key of the row above the path's own, where that was found
 abbrev pub parent : Place → List Key
-parent place = where_so (is_found place) (map (λ (r : Key × Inode). r.0) (option_to_list (parent_found place)))
+parent place = where_so (is_whole place) (map (λ (r : Key × Inode). r.0) (option_to_list (parent_found place)))
 
 -- the quota keys of those among the rows found that have a quota, which are directories
 abbrev pub quotas : Place → List Key
@@ -71,18 +79,18 @@ rename_keys [] = []
 rename_keys (source ∷ []) = low source
 rename_keys (source ∷ destination ∷ inside) =
     low source ++ parent source ++ quotas source ++ low destination ++ next destination ++ quotas destination
-    ++ flat_map (λ (place : Place). if is_found place then low place else next place) inside
+    ++ flat_map (λ (place : Place). if is_whole place then low place else next place) inside
 
 -- what a call of one path locks besides its client's reply key
 abbrev pub path_keys : ClientNo → Call → Place → List (Key × Mode)
-path_keys client (call.Mkdirs path) place = in_mode Exclusive (low place ++ next place ++ where_so (not (is_found place)) (quotas place))
+path_keys client (call.Mkdirs path) place = in_mode Exclusive (low place ++ next place ++ where_so (not (is_whole place)) (quotas place))
 path_keys client (call.Create path overwrite) place = in_mode Exclusive (low place ++ next place ++ quotas place ++ writer_lease place ++ lease client place)
 path_keys client (call.Append path) place = in_mode Exclusive (low place ++ lease client place)
 path_keys client (call.Grow path bytes) place = in_mode Exclusive (low place ++ lease client place ++ quotas place)
 path_keys client (call.Close path) place = in_mode Exclusive (low place ++ lease client place)
 path_keys client (call.Stat path) place = in_mode Shared (low place)
 path_keys client (call.List path) place = in_mode Shared (low place)
-path_keys client (call.Delete path recursive) place = in_mode Exclusive (low place ++ where_so (is_found place) (parent place ++ writer_lease place ++ quotas place))
+path_keys client (call.Delete path recursive) place = in_mode Exclusive (low place ++ where_so (is_whole place) (parent place ++ writer_lease place ++ quotas place))
 path_keys client (call.Rename source destination) place = []
 path_keys client (call.Chmod path mode) place = in_mode Exclusive (low place)
 path_keys client (call.SetQuota path names bytes) place = in_mode Exclusive (low place ++ map (λ (row : Inode). key.Quota row.id) (own_dir place))

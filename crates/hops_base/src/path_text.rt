@@ -27,7 +27,7 @@ pub enum PathFault {
     Nul(u64),
     /// The name at this place has more than 255 bytes.
     NameTooLong(u64),
-    /// The text is a path, and memory ran out.
+    /// Memory ran out before the text was read.
     NoMemory,
 }
 

@@ -1,11 +1,11 @@
 -- Rows that were found, one after another.
-use Rattle.std.proofs.Common.{◌≡◌, ℕ, ◌+◌, ◌-◌, ◌^◌, ◌<◌, ◌≤◌, List, [], ◌∷◌, ◌++◌, length, slice_get, Option, Some, None, IfSome, refl, ap, sym, subst, ◌∙◌, arith, length-append, zero, suc}
+use Rattle.std.proofs.Common.{◌≡◌, ℕ, ◌+◌, ◌-◌, ◌^◌, ◌<◌, ◌≤◌, List, [], ◌∷◌, ◌++◌, length, slice_get, Option, Some, None, IfSome, refl, ap, sym, subst, ◌∙◌, arith, length-append}
 use Rattle.std.specs.Option.{option_map}
 use Rattle.hops_base.specs.Roomy.{Roomy}
 use Rattle.hops_base.specs.declared.key.Key.{Key}
 use Rattle.inode_table.specs.declared.inode.Inode.{Inode}
 use Rattle.db_state.specs.declared.view.Place.{Place}
-use Rattle.inode_ops.specs.Outcomes.{CanMake, deepest}
+use Rattle.inode_ops.specs.Outcomes.{CanMake}
 use Rattle.hops_cli.specs.Running.{IsFoundSoFar}
 
 last-push : (xs : List (Key × Inode)) (x : Key × Inode) → slice_get (xs ++ x ∷ []) (length xs) ≡ Some x

@@ -1,2 +1,3 @@
+pub mod SmallLemmas
 pub mod FoundLemmas
 pub mod Transfers

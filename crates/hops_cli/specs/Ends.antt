@@ -1,5 +1,5 @@
 -- What a call of the program takes, writes and answers. This project's own.
-use Rattle.std.specs.Prelude.{◌≡◌, ℕ, ◌+◌, ◌≤◌, List, length, take, Option, Some, None}
+use Rattle.std.specs.Prelude.{◌≡◌, ◌⊎◌, ℕ, ◌+◌, ◌≤◌, List, length, take, Option, Some, None}
 use Rattle.hops_base.specs.Devices.{Stock, Store, Rose}
 use Rattle.hops_cli.specs.Transfer.{HasTaken, HasGiven, IsAtEnd}
 use Rattle.hops_cli.specs.declared.status.Status.{Status}
@@ -26,7 +26,7 @@ HasCause (Usage place) stock stock' store store' text written = (stock' ≡ stoc
 HasCause ReadFault stock stock' store store' text written = Rose stock.faults stock'.faults × (store' ≡ store)
 HasCause WriteFault stock stock' store store' text written = IsAtEnd stock' × Rose store.faults store'.faults
 HasCause TooLarge stock stock' store store' text written = store' ≡ store
-HasCause NoMemory stock stock' store store' text written = Unit {0}
+HasCause NoMemory stock stock' store store' text written = (store' ≡ store) ⊎ IsAtEnd stock'
 HasCause (Unbuilt client call) stock stock' store store' text written = IsAtEnd stock' × (store' ≡ store) × (client ≡ 0) × (call ≡ 0)
 
 -- With words of this place of usage the call answered this status. It took bytes from the source in order, and

@@ -1,5 +1,5 @@
 -- Which calls are run, and what a resolution finds. This project's own.
-use Rattle.std.specs.Prelude.{◌≡◌, ℕ, ◌+◌, ◌-◌, ◌<◌, ◌≤◌, Bool, true, false, ◌&&◌, nat_le, List, length, slice_get, IfSome}
+use Rattle.std.specs.Prelude.{◌≡◌, ℕ, ◌+◌, ◌-◌, ◌<◌, ◌≤◌, Bool, true, false, ◌&&◌, nat_le, List, [], length, slice_get, IfSome}
 use Rattle.hops_base.specs.Roomy.{Roomy}
 use Rattle.hops_base.specs.declared.key.Key.{Key}
 use Rattle.inode_table.specs.declared.inode.Inode.{Inode}
@@ -7,9 +7,10 @@ use Rattle.std.specs.List.{list_all}
 use Rattle.name_space.specs.declared.call.Call.{Call}
 use Rattle.name_space.specs.declared.call.Call.TheVariants as call
 use Rattle.hops_base.specs.Path.{is_short}
+use Rattle.hops_base.specs.User.{is_user}
 use Rattle.db_state.specs.declared.view.Place.{Place}
 use Rattle.inode_ops.specs.Outcomes.{CanMake}
-use Rattle.hops_cli.specs.declared.small_form.ClientCalls.{ClientCalls}
+use Rattle.name_space.specs.Script.{ClientCalls, Script}
 
 -- the call is of a kind that is built, and its path is short
 abbrev pub is_runnable : Call → Bool
@@ -30,14 +31,23 @@ is_runnable (call.Usage path) = false
 abbrev pub are_runnable_calls : List Call → Bool
 are_runnable_calls calls = nat_le (length calls) 65536 && list_all is_runnable calls
 
--- so are all calls of a client
+-- so are all calls of a client, whose user is one
 abbrev pub is_runnable_client : ClientCalls → Bool
-is_runnable_client client = are_runnable_calls client.calls.items
+is_runnable_client client = is_user client.user && are_runnable_calls client.calls
 
--- the clients are not too many, and neither are their calls, all of which are runnable
-pub record AreRunnable (clients : List ClientCalls) : Type 0 where
-  pub few : length clients ≤ 64
-  pub calls : list_all is_runnable_client clients ≡ true
+-- so are all clients
+abbrev pub are_runnable_clients : List ClientCalls → Bool
+are_runnable_clients clients = list_all is_runnable_client clients
+
+-- a script of the small form: one namenode, at most one client, calls that are run, and for the rest the defaults
+pub record IsSmall (script : Script) : Type 0 where
+  pub namenodes : script.namenodes ≡ 1
+  pub few : length script.clients ≤ 1
+  pub calls : are_runnable_clients script.clients ≡ true
+  pub stops : script.stops ≡ []
+  pub tries : script.tries ≡ 10000
+  pub grace : script.grace ≡ 64
+  pub persist : script.persist ≡ true
 
 -- after i names the rows found are the root's and at most one for each, with room for so many, and the last has an id
 pub record IsFoundSoFar (i next most : ℕ) (found : Roomy (Key × Inode)) : Type 0 where

@@ -1,20 +1,19 @@
 //! `hops`, the program: it reads a script from standard input, runs it and writes its report.
 //!
-//! It stands on `inode_ops` and `db_state` for the calls, on `commit_log` for the book, and on `serde_json`
-//! for JSON values and their texts. It promises on [`top`] which words are a command, that each failure
-//! of a device has its cause, that too large an input is told exactly, and that what is written at any
-//! answer is the front of one text.
+//! It stands on `inode_ops` and `db_state` for the calls, on `commit_log` for the book, on `script_text` and
+//! `report_text` for the texts, and on `serde_json` for JSON values. It promises on [`top`] which words are
+//! a command, that each failure of a device has its cause, that too large an input is told exactly, and
+//! that what is written at any answer is the front of one text.
 #![tactic(auto)]
 
 ghost use Rattle.std.specs.Prelude.{None, map};
 ghost use Rattle.std.specs.String.{string_bytes};
 ghost use Rattle.hops_cli.specs.Ends.{Ends};
-ghost use Rattle.hops_cli.specs.Running.{AreRunnable};
+ghost use Rattle.hops_cli.specs.Running.{IsSmall};
 ghost use Rattle.hops_cli.specs.Words.{usage_place};
 
 mod engine;
 mod give_out;
-mod report;
 mod resolve;
 mod small_form;
 mod status;
@@ -25,7 +24,8 @@ mod words;
 
 use give_out::{GivenOut, give_all};
 use hops_base::{NoMemory, Sink, Source};
-use report::report_text;
+use report_text::report_of;
+use script_text::Script;
 use small_form::{FormFault, read_small_form};
 pub use status::Status;
 use std::alloc::Global;
@@ -62,7 +62,7 @@ pub fn run_script<S: Source, W: Sink>(alloc: Global, source: &mut S, sink: &mut 
         TakenIn::Failed => return Status::ReadFault,
         TakenIn::NoMemory => return Status::NoMemory,
     };
-    let text = match report_of(alloc, &bytes) {
+    let text = match report_text(alloc, &bytes) {
         Ok(text) => text,
         Err(FormFault::Bad) => return Status::Unbuilt { client: 0, call: 0 },
         Err(FormFault::NoMemory) => return Status::NoMemory,
@@ -75,19 +75,19 @@ pub fn run_script<S: Source, W: Sink>(alloc: Global, source: &mut S, sink: &mut 
 }
 
 // The report of the run of the script that these bytes are.
-fn report_of(alloc: Global, bytes: &[u8]) -> Result<Vec<u8>, FormFault> {
-    let clients = read_small_form(alloc, bytes)?;
-    match run_report(alloc, &clients) {
+fn report_text(alloc: Global, bytes: &[u8]) -> Result<Vec<u8>, FormFault> {
+    let script = read_small_form(alloc, bytes)?;
+    match run_report(alloc, &script) {
         Ok(text) => Ok(text),
         Err(NoMemory) => Err(FormFault::NoMemory),
     }
 }
 
-fn run_report(alloc: Global, clients: &[small_form::ClientCalls]) -> Result<Vec<u8>, NoMemory>
-    requires { AreRunnable clients.now }
+fn run_report(alloc: Global, script: &Script) -> Result<Vec<u8>, NoMemory>
+    requires { IsSmall script.now }
 {
-    let ran = engine::run(alloc, clients)?;
-    report_text(alloc, clients, &ran)
+    let ran = engine::run(alloc, script)?;
+    report_of(alloc, script, &ran.book, &ran.answers, &ran.tree)
 }
 
 fn main(rt: HostRuntime) -> ExitCode {

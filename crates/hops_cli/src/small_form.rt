@@ -1,20 +1,15 @@
 //! The small form of a script: one namenode, at most one client, and calls of two kinds.
 
-ghost use Rattle.std.specs.Prelude.{◌≡◌, true, IfOk};
+ghost use Rattle.std.specs.Prelude.{◌≡◌, ◌≤◌, true, IfOk, length};
 ghost use Rattle.hops_base.specs.Path.{is_short};
-ghost use Rattle.hops_cli.specs.Running.{is_runnable, are_runnable_calls, is_runnable_client, AreRunnable};
+ghost use Rattle.hops_base.specs.User.{is_user};
+ghost use Rattle.hops_cli.specs.Running.{is_runnable, are_runnable_calls, is_runnable_client, are_runnable_clients, IsSmall};
 
-use hops_base::{Path, PathFault, User, UserFault};
+use hops_base::{NoMemory, Path, PathFault, StopList, User, UserFault};
 use name_space::Call;
+use script_text::{CallList, ClientCalls, ClientList, Script};
 use serde_json::{Map, Value};
 use std::alloc::{AllocError, AllocFailed, Global};
-
-/// A client of a script: its user, and its calls in order.
-#[derive(Debug, Drop)]
-pub struct ClientCalls {
-    pub user: User,
-    pub calls: Vec<Call>,
-}
 
 /// Why bytes gave no script.
 #[derive(Clone, Copy, Debug, PartialEq, Eq)]
@@ -37,13 +32,19 @@ impl<T: Drop> From<AllocFailed<T>> for FormFault {
     }
 }
 
+impl From<NoMemory> for FormFault {
+    fn from(_error: NoMemory) -> FormFault {
+        FormFault::NoMemory
+    }
+}
+
 // The most calls of a client.
 const MOST_CALLS: usize = 65_536;
 
-/// The clients of a script of the small form: one object with exactly the keys `version`, `namenodes` and
-/// `clients`, of which the first two are 1.
-pub fn read_small_form(alloc: Global, bytes: &[u8]) -> Result<Vec<ClientCalls>, FormFault>
-    ensures { IfOk result (λ clients. AreRunnable clients.items) }
+/// The script of the small form that these bytes are: one object with exactly the keys `version`, `namenodes`
+/// and `clients`, of which the first two are 1. What it doesn't say has its default.
+pub fn read_small_form(alloc: Global, bytes: &[u8]) -> Result<Script, FormFault>
+    ensures { IfOk result IsSmall }
 {
     match Value::from_slice(alloc, bytes) {
         Ok(value) => script_of(alloc, &value),
@@ -52,23 +53,36 @@ pub fn read_small_form(alloc: Global, bytes: &[u8]) -> Result<Vec<ClientCalls>, 
     }
 }
 
-fn script_of(alloc: Global, value: &Value) -> Result<Vec<ClientCalls>, FormFault>
-    ensures { IfOk result (λ clients. AreRunnable clients.items) }
+fn script_of(alloc: Global, value: &Value) -> Result<Script, FormFault>
+    ensures { IfOk result IsSmall }
 {
     let members = members_of(value, 3)?;
     if !is_one(members, "version") || !is_one(members, "namenodes") {
         return Err(FormFault::Bad);
     }
-    clients_of(alloc, items_at(members, "clients")?)
+    let clients = clients_of(alloc, items_at(members, "clients")?)?;
+    Ok(small_script(alloc, clients))
 }
 
-fn clients_of(alloc: Global, values: &[Value]) -> Result<Vec<ClientCalls>, FormFault>
-    ensures { IfOk result (λ clients. AreRunnable clients.items) }
+fn small_script(alloc: Global, clients: ClientList) -> Script
+    requires few { length clients.items ≤ 1 }
+    requires runnable { are_runnable_clients clients.items ≡ true }
+    ensures { IsSmall result }
 {
-    let mut clients = Vec::new(alloc);
+    Script::new(1, clients, StopList::new(alloc), 10_000, 64, true)
+}
+
+fn clients_of(alloc: Global, values: &[Value]) -> Result<ClientList, FormFault>
+    ensures few { IfOk result (λ clients. length clients.items ≤ 1) }
+    ensures runnable { IfOk result (λ clients. are_runnable_clients clients.items ≡ true) }
+{
+    let mut clients = ClientList::new(alloc);
     match values {
         [] => {}
-        [value] => clients.push(client_of(alloc, value)?)?,
+        [value] => {
+            clients.reserve(1)?;
+            clients.push(client_of(alloc, value)?);
+        }
         _ => return Err(FormFault::Bad),
     }
     Ok(clients)
@@ -80,18 +94,19 @@ fn client_of(alloc: Global, value: &Value) -> Result<ClientCalls, FormFault>
     let members = members_of(value, 2)?;
     let user = user_of(alloc, text_at(members, "user")?)?;
     let calls = calls_of(alloc, items_at(members, "calls")?)?;
-    Ok(ClientCalls { user, calls })
+    Ok(ClientCalls::new(user, calls))
 }
 
-fn calls_of(alloc: Global, values: &[Value]) -> Result<Vec<Call>, FormFault>
+fn calls_of(alloc: Global, values: &[Value]) -> Result<CallList, FormFault>
     ensures { IfOk result (λ calls. are_runnable_calls calls.items ≡ true) }
 {
     if values.len() > MOST_CALLS {
         return Err(FormFault::Bad);
     }
-    let mut calls = Vec::with_capacity(alloc, values.len())?;
+    let mut calls = CallList::new(alloc);
+    calls.reserve(values.len() as u64)?;
     for value in values {
-        calls.push(call_of(alloc, value)?)?;
+        calls.push(call_of(alloc, value)?);
     }
     Ok(calls)
 }
@@ -113,7 +128,9 @@ fn call_of(alloc: Global, value: &Value) -> Result<Call, FormFault>
     }
 }
 
-fn user_of(alloc: Global, text: &str) -> Result<User, FormFault> {
+fn user_of(alloc: Global, text: &str) -> Result<User, FormFault>
+    ensures { IfOk result (λ user. is_user user ≡ true) }
+{
     match User::read(alloc, text) {
         Ok(user) => Ok(user),
         Err(UserFault::Bad) => Err(FormFault::Bad),

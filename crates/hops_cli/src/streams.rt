@@ -1,6 +1,6 @@
 //! Readers and writers as sources and sinks. They don't tell what they have left or hold.
 
-ghost use Rattle.std.specs.Prelude.{◌≤◌, length};
+ghost use Rattle.std.specs.Prelude.{◌≡◌, ◌≤◌, IfOk, length};
 ghost use Rattle.hops_base.specs.Devices.{Hands, Keeps};
 
 use hops_base::{Given, NoMemory, Sink, Source, Taken};
@@ -20,7 +20,9 @@ pub struct InputSource<R> {
 
 impl<R: Read + Drop> InputSource<R> {
     /// A source of all that the reader has.
-    pub fn new(alloc: Global, reader: R) -> Result<InputSource<R>, NoMemory> {
+    pub fn new(alloc: Global, reader: R) -> Result<InputSource<R>, NoMemory>
+        ensures { IfOk result (λ source. source.faults ≡ 0) }
+    {
         let buffer = vec![in alloc; 0; PIECE]?;
         Ok(InputSource {
             reader,
@@ -65,7 +67,9 @@ pub struct OutputSink<W> {
 
 impl<W: Write> OutputSink<W> {
     /// A sink that gives all to the writer.
-    pub fn new(writer: W) -> OutputSink<W> {
+    pub fn new(writer: W) -> OutputSink<W>
+        ensures { result.faults ≡ 0 }
+    {
         OutputSink { writer, faults: 0 }
     }
 }

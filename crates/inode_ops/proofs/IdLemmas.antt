@@ -17,7 +17,9 @@ use Rattle.db_state.specs.declared.outcome.Outcome.TheVariants.{Answer, Subtree}
 use Rattle.db_state.specs.declared.writes.Row.{Row}
 use Rattle.db_state.specs.State.{root_key}
 use Rattle.db_state.specs.Written.{is_fit, next_after}
-use Rattle.inode_ops.specs.Outcomes.{deepest, is_whole, made, CanMake, MkdirsOf, WritesNone, TakesIds}
+use Rattle.inode_ops.specs.Outcomes.{CanMake, MkdirsOf, WritesNone, TakesIds}
+use Rattle.db_state.specs.Plan.{deepest, is_whole}
+use Rattle.db_state.specs.NewDirs.{new_dirs}
 
 -- a row below a parent isn't the root's
 not_root : (parent : ℕ) (name : List ℕ) → 1 ≤ parent → same_key root_key (key.Inode (record { 0 = parent }) name) ≡ false
@@ -28,12 +30,12 @@ not_root parent name h =
     ] refl
 
 -- new directories may be written
-made-is_fit : (parent next : ℕ) (owner : List ℕ) (names : List (List ℕ)) → 1 ≤ parent → 1 ≤ next → next + length names < 2 ^ 64 → list_all is_fit (made parent next owner names) ≡ true
+made-is_fit : (parent next : ℕ) (owner : List ℕ) (names : List (List ℕ)) → 1 ≤ parent → 1 ≤ next → next + length names < 2 ^ 64 → list_all is_fit (new_dirs parent next owner names) ≡ true
 made-is_fit parent next owner [] low start room = refl
 made-is_fit parent next owner (name ∷ names) low start room =
     let least : nat_le 1 next ≡ true = le next start in
     let small : nat_lt (next + 1) (2 ^ 64) ≡ true = lt (next + 1) (omega arith) in
-    let rest : list_all is_fit (made next (next + 1) owner names) ≡ true = made-is_fit next (next + 1) owner names start (omega arith) (omega arith) in
+    let rest : list_all is_fit (new_dirs next (next + 1) owner names) ≡ true = made-is_fit next (next + 1) owner names start (omega arith) (omega arith) in
     rw (not_root parent name low, least, small, rest) refl
   where
     le : (n : ℕ) → 1 ≤ n → nat_le 1 n ≡ true
@@ -43,12 +45,12 @@ made-is_fit parent next owner (name ∷ names) low start room =
     lt n e = grind (arith, nat_tests)
 
 -- the next free id is then past all of theirs
-made-next_after : (parent next : ℕ) (owner : List ℕ) (names : List (List ℕ)) → next + length names < 2 ^ 64 → next_after next (made parent next owner names) ≡ next + length names
+made-next_after : (parent next : ℕ) (owner : List ℕ) (names : List (List ℕ)) → next + length names < 2 ^ 64 → next_after next (new_dirs parent next owner names) ≡ next + length names
 made-next_after parent next owner [] room = omega arith
 made-next_after parent next owner (name ∷ names) room =
     let here : max next (min (next + 1) (2 ^ 64 - 1)) ≡ next + 1 = above next (omega arith) in
-    let rest : next_after (next + 1) (made next (next + 1) owner names) ≡ next + 1 + length names = made-next_after next (next + 1) owner names (omega arith) in
-    ap (λ n. next_after n (made next (next + 1) owner names)) here ∙ rest ∙ omega arith
+    let rest : next_after (next + 1) (new_dirs next (next + 1) owner names) ≡ next + 1 + length names = made-next_after next (next + 1) owner names (omega arith) in
+    ap (λ n. next_after n (new_dirs next (next + 1) owner names)) here ∙ rest ∙ omega arith
   where
     above : (n : ℕ) → n + 1 < 2 ^ 64 → max n (min (n + 1) (2 ^ 64 - 1)) ≡ n + 1
     above n e = omega arith
@@ -58,9 +60,9 @@ none_take : (next count : ℕ) (writes : Roomy (Key × Option Row)) → writes.i
 none_take next count writes none = rw none (refl, omega arith)
 
 -- these directories are
-pub made_take : (parent next : ℕ) (owner : List ℕ) (names path : List (List ℕ)) (writes : Roomy (Key × Option Row)) → 1 ≤ parent → parent < next → next + length path < 2 ^ 64 → length names ≤ length path → writes.items ≡ made parent next owner names → (list_all is_fit writes.items ≡ true) × (next_after next writes.items ≤ next + length path)
+pub made_take : (parent next : ℕ) (owner : List ℕ) (names path : List (List ℕ)) (writes : Roomy (Key × Option Row)) → 1 ≤ parent → parent < next → next + length path < 2 ^ 64 → length names ≤ length path → writes.items ≡ new_dirs parent next owner names → (list_all is_fit writes.items ≡ true) × (next_after next writes.items ≤ next + length path)
 made_take parent next owner names path writes low below room few is =
-    let after : next_after next (made parent next owner names) ≡ next + length names = made-next_after parent next owner names (omega arith) in
+    let after : next_after next (new_dirs parent next owner names) ≡ next + length names = made-next_after parent next owner names (omega arith) in
     rw is (made-is_fit parent next owner names low (omega arith) (omega arith), rw after (omega arith))
 
 mkdirs_of : (kind : Kind) (whole : Bool) (last : Inode) (place : Place) (next : ℕ) (owner : List ℕ) (outcome : Outcome) → 1 ≤ last.id.0 → last.id.0 < next → next + length place.path < 2 ^ 64 → MkdirsOf kind whole last place next owner outcome → TakesIds next (length place.path) outcome

@@ -13,7 +13,7 @@ use Rattle.hops_base.specs.Key.{same_key, number_of, key_cmp_exact}
 use Rattle.db_state.specs.declared.writes.Row.{Row}
 use Rattle.db_state.specs.declared.writes.Row.TheVariants as row
 use Rattle.db_state.specs.State.{new_dir}
-use Rattle.inode_ops.specs.Outcomes.{made}
+use Rattle.db_state.specs.NewDirs.{new_dirs}
 
 -- the key's first number is below n
 abbrev pub is_above : ℕ → Key → Bool
@@ -21,7 +21,7 @@ is_above n k = nat_lt (number_of k) n
 
 -- so far i of the names have their directories, the last of which is the next one's parent
 pub record IsMaking (parent next : ℕ) (owner : List ℕ) (names : List (List ℕ)) (i up id : ℕ) (writes : Roomy (Key × Option Row)) : Type 0 where
-  pub rows : writes.items ++ made up id owner (drop i names) ≡ made parent next owner names
+  pub rows : writes.items ++ new_dirs up id owner (drop i names) ≡ new_dirs parent next owner names
   pub count : length writes.items ≡ i
   pub room : length names ≤ writes.room
   pub below : up < id
@@ -61,7 +61,7 @@ all-push id (x ∷ ks) k all here =
     let rest : list_all (is_above id) (ks ++ k ∷ []) ≡ true = all-push id ks k (second_so _ _ all) here in
     rw (first, rest) refl
 
--- nothing is made yet
+-- nothing is new_dirs yet
 pub making_none : (parent next : ℕ) (owner : List ℕ) (names : List (List ℕ)) (writes : Roomy (Key × Option Row)) → parent < next → writes.items ≡ [] → length names ≤ writes.room → IsMaking parent next owner names 0 parent next writes
 making_none parent next owner names writes below none room = record {
   rows = rw none refl;
@@ -88,20 +88,20 @@ making_next parent next owner names i up id old new name making h item is =
     lt : (m n : ℕ) → m < n → nat_lt m n ≡ true
     lt m n h = grind (arith, nat_tests)
 
-    cut : made up id owner (drop i names) ≡ (key.Inode (record { 0 = up }) name, Some (row.Inode (new_dir id owner))) ∷ made id (id + 1) owner (drop (i + 1) names)
+    cut : new_dirs up id owner (drop i names) ≡ (key.Inode (record { 0 = up }) name, Some (row.Inode (new_dir id owner))) ∷ new_dirs id (id + 1) owner (drop (i + 1) names)
     cut =
         let e : suc i ≡ i + 1 = omega arith in
-        ap (made up id owner) (drop-cons names i name h ∙ ap (λ (n : List ℕ). n ∷ drop (suc i) names) (sym item) ∙ ap (λ (k : ℕ). name ∷ drop k names) e)
+        ap (new_dirs up id owner) (drop-cons names i name h ∙ ap (λ (n : List ℕ). n ∷ drop (suc i) names) (sym item) ∙ ap (λ (k : ℕ). name ∷ drop k names) e)
 
     length_push : (ws : List (Key × Option Row)) (w : Key × Option Row) → length (ws ++ w ∷ []) ≡ length ws + 1
     length_push [] w = refl
     length_push (x ∷ ws) w = let e = length_push ws w in omega arith
 
 -- all are made
-pub making_all : (parent next : ℕ) (owner : List ℕ) (names : List (List ℕ)) (i up id : ℕ) (writes : Roomy (Key × Option Row)) → IsMaking parent next owner names i up id writes → length names ≤ i → writes.items ≡ made parent next owner names
+pub making_all : (parent next : ℕ) (owner : List ℕ) (names : List (List ℕ)) (i up id : ℕ) (writes : Roomy (Key × Option Row)) → IsMaking parent next owner names i up id writes → length names ≤ i → writes.items ≡ new_dirs parent next owner names
 making_all parent next owner names i up id writes making h =
     let none : drop i names ≡ [] = drop-all i names h in
-    let end : made up id owner (drop i names) ≡ [] = ap (made up id owner) none in
+    let end : new_dirs up id owner (drop i names) ≡ [] = ap (new_dirs up id owner) none in
     sym (append-nil writes.items) ∙ ap (λ (ws : List (Key × Option Row)). writes.items ++ ws) (sym end) ∙ making.rows
   where
     drop-all : (i : ℕ) (names : List (List ℕ)) → length names ≤ i → drop i names ≡ []

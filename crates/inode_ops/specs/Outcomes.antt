@@ -20,17 +20,10 @@ use Rattle.db_state.specs.declared.outcome.Outcome.{Outcome}
 use Rattle.db_state.specs.declared.outcome.Outcome.TheVariants.{Answer, Subtree}
 use Rattle.db_state.specs.declared.writes.Row.{Row}
 use Rattle.db_state.specs.declared.writes.Row.TheVariants as row
-use Rattle.db_state.specs.State.{new_dir}
+use Rattle.db_state.specs.NewDirs.{new_dirs}
+use Rattle.db_state.specs.Plan.{deepest, is_whole}
 use Rattle.db_state.specs.Written.{is_fit, next_after}
 use Rattle.std.specs.List.{list_all}
-
--- the last row found
-abbrev pub deepest : Place → Option Inode
-deepest place = option_map (λ (found : Key × Inode). found.1) (slice_get place.found.items (length place.found.items - 1))
-
--- the path was found whole: each of its names has its row, and so has the root
-abbrev pub is_whole : Place → Bool
-is_whole place = nat_lt (length place.path) (length place.found.items)
 
 -- what is told of a row
 abbrev pub status_of_kind : Kind → Inode → FileStatus
@@ -39,11 +32,6 @@ status_of_kind File inode = status.File inode.len inode.mode inode.owner
 
 abbrev pub status_of : Inode → FileStatus
 status_of inode = status_of_kind inode.kind inode
-
--- one new directory for each name, below each other from the parent on, with the ids from next on
-abbrev pub made : ℕ → ℕ → List ℕ → List (List ℕ) → List (Key × Option Row)
-made parent next owner [] = []
-made parent next owner (name ∷ names) = (key.Inode (record { 0 = parent }) name, Some (row.Inode (new_dir next owner))) ∷ made next (next + 1) owner names
 
 -- nothing is written, and this is refused
 abbrev pub IsRefused : Exception → Outcome → Type 0
@@ -77,7 +65,7 @@ AnswersStat place outcome = IfSome (deepest place) (λ last. StatOf (is_whole pl
 -- what `mkdirs` answers where this row is the last found, of this kind, and the path is whole or not
 abbrev pub MkdirsOf : Kind → Bool → Inode → Place → ℕ → List ℕ → Outcome → Type 0
 MkdirsOf Dir true last place next owner outcome = IsTold (Truth true) outcome
-MkdirsOf Dir false last place next owner outcome = IsMade (made last.id.0 next owner (drop (length place.found.items - 1) place.path)) outcome
+MkdirsOf Dir false last place next owner outcome = IsMade (new_dirs last.id.0 next owner (drop (length place.found.items - 1) place.path)) outcome
 MkdirsOf File true last place next owner outcome = IsRefused FileAlreadyExists outcome
 MkdirsOf File false last place next owner outcome = IsRefused ParentNotDirectory outcome
 

@@ -2,7 +2,8 @@
 
 ghost use Rattle.std.specs.Prelude.{◌≡◌, ◌+◌, ◌-◌, ◌^◌, ◌<◌, ◌≤◌, length, IfOk};
 ghost use Rattle.db_state.specs.State.{new_dir};
-ghost use Rattle.inode_ops.specs.Outcomes.{CanMake, AnswersMkdirs, IsRefused, TakesIds, made};
+ghost use Rattle.inode_ops.specs.Outcomes.{CanMake, AnswersMkdirs, IsRefused, TakesIds};
+ghost use Rattle.db_state.specs.NewDirs.{new_dirs};
 
 use crate::place::{deepest, is_whole};
 use db_state::{Outcome, Place, Row, Writes};
@@ -47,7 +48,7 @@ fn new_dirs(
 ) -> Result<Writes, NoMemory>
     requires below { parent.0 < next.0 }
     requires ids { next.0 + length names.now < 2 ^ 64 }
-    ensures { IfOk result (λ writes. writes.items ≡ made parent.0 next.0 user.now names.now) }
+    ensures { IfOk result (λ writes. writes.items ≡ new_dirs parent.0 next.0 user.now names.now) }
 {
     let mut writes = Writes::new(alloc);
     writes.reserve(names.len() as u64)?;

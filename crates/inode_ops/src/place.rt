@@ -1,7 +1,7 @@
 //! What a place tells of its path.
 
 ghost use Rattle.std.specs.Prelude.{◌≡◌, ◌≤◌, length, option_copied};
-ghost use Rattle.inode_ops.specs.Outcomes.{deepest, is_whole};
+ghost use Rattle.db_state.specs.Plan.{deepest, is_whole};
 
 use db_state::Place;
 use inode_table::Inode;

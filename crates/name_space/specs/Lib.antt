@@ -1,7 +1,9 @@
 pub mod Call
 pub mod Calls
+pub mod ChainLaws
 pub mod Cut
 pub mod Laws
+pub mod MkdirsLaws
 pub mod MoveLaws
 pub mod Namespace
 pub mod NamespaceLaws
@@ -10,6 +12,7 @@ pub mod Plain
 pub mod PrefixLaws
 pub mod Quota
 pub mod Rename
+pub mod RisingLaws
 pub mod Rows
 pub mod Script
 pub mod UsageLaws

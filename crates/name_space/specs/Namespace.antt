@@ -94,6 +94,11 @@ prefixes path = above path ++ path ∷ []
 abbrev pub missing : Namespace → Path → List Path
 missing space path = filter (λ (up : Path). not (exists space up)) (prefixes path)
 
+-- the paths of these names below a path, each below the one before
+abbrev pub paths_below : Path → List (List ℕ) → List Path
+paths_below path [] = []
+paths_below path (name ∷ names) = (path ++ name ∷ []) ∷ paths_below (path ++ name ∷ []) names
+
 -- what stands at the longest prefix that exists
 abbrev pub nearest : Namespace → Path → Option Entry
 nearest space path = last_or None (filter_map (entry_at space) (prefixes path))

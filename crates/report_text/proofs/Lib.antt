@@ -1,0 +1,3 @@
+pub mod NoFloat
+pub mod NoteLines
+pub mod WholeText

@@ -4,4 +4,5 @@ pub mod Entries
 pub mod Notes
 pub mod Answers
 pub mod Report
+pub mod IsReport
 pub mod Rows

@@ -2,3 +2,4 @@ mod Canonical
 mod Exact
 pub mod Literals
 mod OneScript
+pub mod NoFloat

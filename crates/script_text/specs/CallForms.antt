@@ -1,8 +1,8 @@
 -- Which values of JSON are calls, and what is wrong with the others. This project's own.
 use Prim.Native.String.{String}
-use Rattle.std.specs.Prelude.{ℕ, Bool, false, ◌&&◌, ◌||◌, nat_le, List, [], ◌∷◌, map, drop, slice_get, filter_map, find, Option, None, is_some, option_and_then, bytes_eq, codes}
+use Rattle.std.specs.Prelude.{ℕ, Bool, false, ◌&&◌, ◌||◌, nat_le, List, [], ◌∷◌, map, drop, slice_get, filter_map, find, Option, is_some, option_and_then, bytes_eq, codes}
 use Rattle.std.specs.List.{list_all}
-use Rattle.std.specs.Option.{option_or, option_map_or}
+use Rattle.std.specs.Option.{option_map_or}
 use Rattle.std.specs.Cmp.Lexicographic.{pointwise}
 use Rattle.hops_base.specs.First.{first_some}
 use Rattle.hops_base.specs.Path.{path_fault}

@@ -4,3 +4,5 @@ pub mod CallForms
 pub mod Faults
 pub mod Grammar
 pub mod Rows
+pub mod Built
+pub mod Script

@@ -10,12 +10,12 @@ fn calls_of_both_kinds(rt: HostRuntime) -> Result<(), Fail> {
     let alloc = rt.alloc();
     let text =
         "{\"clients\":[{\"calls\":[[\"mkdirs\",\"/a/b\"],[\"stat\",\"/\"]],\"user\":\"u-9_x\"}],\"namenodes\":1,\"version\":1}";
-    let clients = read_small_form(alloc, text.as_bytes())?;
-    let [client] = clients.as_slice() else {
+    let script = read_small_form(alloc, text.as_bytes())?;
+    let [client] = script.clients() else {
         return Err("one client".into());
     };
-    assert_eq!(rt; client.user.text(), "u-9_x");
-    let [Call::Mkdirs(made), Call::Stat(told)] = client.calls.as_slice() else {
+    assert_eq!(rt; client.user().text(), "u-9_x");
+    let [Call::Mkdirs(made), Call::Stat(told)] = client.calls() else {
         return Err("a mkdirs and a stat".into());
     };
     assert_eq!(rt; made.text()?.as_str(), "/a/b");

@@ -1,4 +1,4 @@
-use Rattle.std.proofs.Common.{◌+◌, ◌<◌, ◌^◌, length, arith}
+use Rattle.std.proofs.Common.{◌+◌, length, arith}
 use Rattle.db_state.specs.declared.view.Place.{Place}
 use Rattle.hops_cli.specs.Running.{IsFoundSoFar}
 use Rattle.hops_cli.proofs.FoundLemmas.{can_make}

@@ -1,0 +1,9 @@
+use Rattle.std.proofs.Common.{ap, ◌∙◌}
+use Rattle.serde_json.specs.Written.{has_float, compact_text}
+use Rattle.script_text.proofs.NoFloat.{no_float_in_script}
+use Rattle.script_text.proofs.write.write_script.Goals as goal
+
+pub returns : goal.returns
+returns c =
+    let built = c.in_ok-script_value.ensures in
+    c.in_ok-to_vec.ensures.text (ap has_float built ∙ no_float_in_script c.args.script.now) ∙ ap compact_text built
