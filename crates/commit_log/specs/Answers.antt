@@ -85,9 +85,13 @@ AccountedAt lines before note = Where (λ (a : Answering).
     (list_any (λ (line : AnswerLine). is_call a.client a.number line && not (is_again line.end)) lines ≡ true)
     × (list_any (answers a.client a.number) before ≡ false)) (did note)
 
+-- the client and the call that a line answers, by their numbers
+abbrev pub call_answered : AnswerLine → ℕ × ℕ
+call_answered line = (line.client.0, line.call)
+
 -- the lines answer the script's calls, each once and in order, as the book has it
 pub record Answers (script : Script) (notes : List Note) (lines : List AnswerLine) : Type 0 where
-  pub each : map (λ (line : AnswerLine). (line.client.0, line.call)) lines ≡ calls_in script
+  pub each : map call_answered lines ≡ calls_in script
   pub ended : AllByRecursion (λ (line : AnswerLine). Ended script notes lines line.client line.call line.end) lines
   pub rise : (client : ClientNo) → IsStrictlySortedBy nat_cmp (dones lines client)
   pub accounted : Each (AccountedAt lines) notes

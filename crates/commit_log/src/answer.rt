@@ -19,6 +19,6 @@ pub enum CallEnd {
     /// It gave up at the conflict of the note, without a reply. A delete that was cut off may have removed a
     /// part.
     Again(u64),
-    /// No namenode was left to tell a reply; one had stopped by the note.
+    /// No namenode was left to tell a reply; the note says that one had stopped.
     NoNamenode(u64),
 }

@@ -18,7 +18,7 @@ pub enum Note {
     /// made over all attempts, and the reply. It gives back all locks of the session, ends its flag and ends
     /// the session.
     Did(SessionId, ClientNo, u32, Call, u64, Reply),
-    /// These paths below the operation's path are removed from the history's namespace.
+    /// These paths below the operation's path, in their order, are removed from the history's namespace.
     Cut(OpId, Path, PathList),
     /// The session met a conflict with others.
     Met(SessionId, Cause),

@@ -13,6 +13,6 @@ end_values (Done note reply) = word "done" ∷ whole note ∷ reply_data reply �
 end_values (Again note) = word "again" ∷ whole note ∷ []
 end_values (NoNamenode note) = word "nonamenode" ∷ whole note ∷ []
 
--- the line of an answer: the client, its call and the end of it
+-- the value of the line of an answer: the client, its call and the end of it
 abbrev pub answer_data : AnswerLine → Data
 answer_data answer = row (word "answer" ∷ whole answer.client.0 ∷ whole answer.call ∷ end_values answer.end)

@@ -16,6 +16,6 @@ abbrev pub entry_data : Entry → Data
 entry_data (Dir mode owner max_names max_bytes) = fields (("kind", word "dir") ∷ ("max_bytes", optional max_bytes) ∷ ("max_names", optional max_names) ∷ ("mode", whole mode) ∷ ("owner", string owner) ∷ [])
 entry_data (File len writer mode owner) = fields (("kind", word "file") ∷ ("len", whole len) ∷ ("mode", whole mode) ∷ ("owner", string owner) ∷ ("writer", writer_data writer) ∷ [])
 
--- the line of a path and its entry
+-- the value of the line of a path and its entry
 abbrev pub place_data : List (List ℕ) × Entry → Data
 place_data place = row (word "path" ∷ path_data place.0 ∷ entry_data place.1 ∷ [])

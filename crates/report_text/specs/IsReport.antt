@@ -4,6 +4,7 @@ use Rattle.std.specs.FinMap.Entries as entries
 use Rattle.hops_base.specs.Path.{path_cmp}
 use Rattle.name_space.specs.Script.{Script}
 use Rattle.name_space.specs.declared.entry.Entry.{Entry}
+pub use Rattle.commit_log.specs.Answers.{call_answered}
 use Rattle.commit_log.specs.Answers.{calls_in}
 use Rattle.commit_log.specs.declared.answer.AnswerLine.{AnswerLine}
 use Rattle.commit_log.specs.declared.note.Note.{Note}
@@ -14,10 +15,6 @@ pub record Report : Type 0 where
   pub notes : List Note
   pub answers : List AnswerLine
   pub tree : List (List (List ℕ) × Entry)
-
--- the number of the client and of the call that a line answers
-abbrev pub call_answered : AnswerLine → ℕ × ℕ
-call_answered answer = (answer.client.0, answer.call)
 
 -- each call of the script has one answer, by client and call, and the paths of the tree rise from the root
 pub record IsReport (report : Report) : Type 0 where

@@ -51,6 +51,6 @@ note_values (Cut op path gone) = word "cut" ∷ whole op.0 ∷ path_data path �
 note_values (Met session cause) = word "met" ∷ whole session.0 ∷ cause_data cause ∷ []
 note_values (Gone node ended) = word "gone" ∷ whole node.0 ∷ ended_data ended ∷ []
 
--- the line of a note: its number, and then the note
+-- the value of the line of a note: its number, and then the note
 abbrev pub note_data : ℕ → Note → Data
 note_data number note = row (whole number ∷ note_values note)

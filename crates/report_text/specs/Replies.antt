@@ -19,16 +19,16 @@ abbrev pub status_data : FileStatus → Data
 status_data (Dir mode owner) = fields (("kind", word "dir") ∷ ("mode", whole mode) ∷ ("owner", string owner) ∷ [])
 status_data (File len mode owner) = fields (("kind", word "file") ∷ ("len", whole len) ∷ ("mode", whole mode) ∷ ("owner", string owner) ∷ [])
 
--- a child of this name and status has the status and the name
+-- what is listed under this name with this status has both
 abbrev pub named_data : List ℕ → FileStatus → Data
 named_data name (Dir mode owner) = fields (("kind", word "dir") ∷ ("mode", whole mode) ∷ ("name", string name) ∷ ("owner", string owner) ∷ [])
 named_data name (File len mode owner) = fields (("kind", word "file") ∷ ("len", whole len) ∷ ("mode", whole mode) ∷ ("name", string name) ∷ ("owner", string owner) ∷ [])
 
--- a child in a listing
+-- an item of a listing
 abbrev pub listed_data : Listed → Data
 listed_data listed = named_data listed.name listed.status
 
--- a cause is its name
+-- a why is its name
 abbrev pub why_data : Why → Data
 why_data Descendant = word "Descendant"
 why_data BadParent = word "BadParent"

@@ -13,15 +13,15 @@ use Rattle.report_text.specs.Notes.{note_data}
 use Rattle.report_text.specs.Answers.{answer_data}
 use Rattle.report_text.specs.Entries.{place_data}
 
--- the first line: the number of this form of reports, and the script
+-- the value of the first line: the number of this form of reports, and the script
 abbrev pub head_data : Script → Data
 head_data script = fields (("report", whole 1) ∷ ("script", script_data script) ∷ [])
 
--- the lines of notes, of which the first has this number
+-- the values of the lines of notes, of which the first has this number
 abbrev pub notes_data : ℕ → List Note → List Data
 notes_data number notes = map (λ (p : ℕ × Note). note_data p.0 p.1) (enumerate_from number notes)
 
--- the last line: how many notes, answers and paths there are
+-- the value of the last line: how many notes, answers and paths there are
 abbrev pub counts_data : ℕ → ℕ → ℕ → Data
 counts_data notes answers places = row (word "end" ∷ whole notes ∷ whole answers ∷ whole places ∷ [])
 
@@ -31,7 +31,7 @@ report_data script notes answers tree =
     (head_data script ∷ notes_data 0 notes)
     ++ (map answer_data answers ++ (map place_data tree ++ counts_data (length notes) (length answers) (length tree) ∷ []))
 
--- the line of a value
+-- the line that a value makes
 abbrev pub line_of : Data → List ℕ
 line_of value = compact_text value ++ 10 ∷ []
 

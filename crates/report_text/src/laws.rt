@@ -20,7 +20,7 @@ pub fn first_report_without_locks_is_written()
         ≡ text_of_lines plain_lines }
 {}
 
-/// The lines of notes and the texts of replies that the first script has none of.
+/// Some lines of notes and texts of replies that the first script has none of.
 pub fn other_forms_are_written()
     ensures notes { map (λ row. compact_text (note_data row.0.0 row.0.1)) other_notes
         ≡ map (λ row. codes row.1) other_notes }

@@ -12,7 +12,7 @@ use Rattle.serde_json.specs.Data.{Data}
 use Rattle.serde_json.specs.Find.{as_null, as_bool, as_str}
 use Rattle.script_text.specs.Json.{values_in, as_whole}
 
--- what may stand behind the name of a call: the text of a path, a truth value, a whole number, or one or null
+-- what may stand behind the name of a call: the text of a path, a truth value, a whole number, or a whole number or null
 pub data Shape : Type 0 where
   path_text : Shape
   truth_value : Shape

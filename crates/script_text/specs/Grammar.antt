@@ -1,31 +1,16 @@
 -- Which bytes are which script. This project's own.
-use Rattle.std.specs.Prelude.{◌≡◌, ℕ, true, List, [], ◌∷◌, map, Some, None, unwrap_or, Result, Ok, Err, ⊤}
+use Rattle.std.specs.Prelude.{◌≡◌, ℕ, true, List, [], map, Some, None, unwrap_or, Result, Ok, Err, ⊤}
 use Rattle.std.specs.List.{AllZip, AllByRecursion}
 use Rattle.hops_base.specs.Path.{text_of, names_in, path_fault}
 use Rattle.name_space.specs.Script.{ClientCalls, Script}
 use Rattle.name_space.specs.declared.call.Call.{Call}
-use Rattle.name_space.specs.declared.call.Call.TheVariants as call
+pub use Rattle.name_space.specs.Call.{paths_of}
 use Rattle.serde_json.specs.Data.{Data, boolean, string, object, Members}
 use Rattle.script_text.specs.declared.fault.ScriptError.{ScriptError}
 use Rattle.script_text.specs.declared.fault.ScriptError.TheVariants.{Bad, NoMemory}
 use Rattle.script_text.specs.Json.{whole, row, at_key}
 use Rattle.script_text.specs.Form.{call_data, stop_data}
 use Rattle.script_text.specs.Faults.{value_of, script_fault}
-
--- the paths that a call names
-abbrev pub paths_of : Call → List (List (List ℕ))
-paths_of (call.Mkdirs path) = path ∷ []
-paths_of (call.Create path overwrite) = path ∷ []
-paths_of (call.Append path) = path ∷ []
-paths_of (call.Grow path bytes) = path ∷ []
-paths_of (call.Close path) = path ∷ []
-paths_of (call.Stat path) = path ∷ []
-paths_of (call.List path) = path ∷ []
-paths_of (call.Delete path recursive) = path ∷ []
-paths_of (call.Rename source target) = source ∷ target ∷ []
-paths_of (call.Chmod path mode) = path ∷ []
-paths_of (call.SetQuota path names bytes) = path ∷ []
-paths_of (call.Usage path) = path ∷ []
 
 -- the path is the one that its text spells
 abbrev pub IsSpelled : List (List ℕ) → Type 0

@@ -50,7 +50,7 @@ keys_of (member key value rest) = key ∷ keys_of rest
 abbrev pub at_key : String → Members → Option Data
 at_key key rest = get_member (codes key) rest
 
--- the whole number that a value is: one with a sign, a fraction or an exponent is none, nor is one past 64 bits
+-- the whole number that a value is: one with a sign, a fraction or an exponent is none. Reading gives none past 64 bits
 abbrev pub as_whole : Data → Option ℕ
 as_whole value = option_and_then as_u64 (as_number value)
 

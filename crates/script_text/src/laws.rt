@@ -73,7 +73,8 @@ pub fn each_rule_is_told()
         ≡ Some (fault 16 0 2) }
 {}
 
-/// Of two faults the first is told: by the rules, and then by the places of clients and calls.
+/// Of two faults the first is told: by the rules, and then by the places of clients and calls. Of a key that
+/// stands twice the last value counts, and later clients and paths are looked at too.
 pub fn first_rule_is_told()
     ensures key_before_version { script_fault (with_members "\"version\":9,\"namenodes\":1,\"speed\":1")
         ≡ Some (fault 3 0 0) }

@@ -19,7 +19,7 @@ fn plain(alloc: Global, clients: ClientList) -> Script
     Script::new(1, clients, StopList::new(alloc), 10_000, 64, true)
 }
 
-// The client `ann` with one call, which is valid.
+// A client of this user with one call, which is valid.
 fn one_call(alloc: Global, user: &str, call: Call) -> Result<ClientList, Fail>
     requires { is_valid call ≡ true }
     ensures { IfOk result (λ clients. (length clients.items ≤ 64) × (list_all is_client clients.items ≡ true)) }
