@@ -4,6 +4,7 @@ use Rattle.std.specs.FinMap as map
 use Rattle.hops_base.specs.declared.key.Key.{Key}
 use Rattle.hops_base.specs.declared.key.Key.TheVariants as key
 use Rattle.hops_base.specs.Key.{key_cmp}
+use Rattle.name_space.specs.Namespace.{dir_mode, root_owner}
 use Rattle.inode_table.specs.declared.inode.Inode.{Inode}
 use Rattle.inode_table.specs.declared.inode.Kind.TheVariants.{Dir}
 use Rattle.commit_log.specs.declared.note.Note.{Note}
@@ -20,13 +21,13 @@ root_key = key.Inode (record { 0 = 0 }) (codes "root")
 
 -- a new directory of this id and owner
 abbrev pub new_dir : ℕ → List ℕ → Inode
-new_dir id owner = record { id = record { 0 = id }; kind = Dir; len = 0; writer = None; mode = 493; owner = owner; has_quota = false; flag = None }
+new_dir id owner = record { id = record { 0 = id }; kind = Dir; len = 0; writer = None; mode = dir_mode; owner = owner; has_quota = false; flag = None }
 
 -- the root's row
 abbrev pub root_row : Inode
-root_row = new_dir 1 (codes "hdfs")
+root_row = new_dir 1 root_owner
 
--- before anything happened: the root alone, whose owner is hdfs
+-- before anything happened: the root alone
 abbrev pub opening : State
 opening = record { inodes = map.insert map.empty root_key root_row; notes = []; next = 2 }
 

@@ -10,7 +10,7 @@ use Rattle.hops_base.specs.Path.{is_short}
 use Rattle.hops_base.specs.User.{is_user}
 use Rattle.db_state.specs.declared.view.Place.{Place}
 use Rattle.inode_ops.specs.Outcomes.{CanMake}
-use Rattle.name_space.specs.Script.{ClientCalls, Script}
+use Rattle.name_space.specs.Script.{ClientCalls, Script, most_calls, default_tries, default_grace}
 
 -- the call is of a kind that is built, and its path is short
 abbrev pub is_runnable : Call → Bool
@@ -29,7 +29,7 @@ is_runnable (call.Usage path) = false
 
 -- so are all these calls, which are not too many
 abbrev pub are_runnable_calls : List Call → Bool
-are_runnable_calls calls = nat_le (length calls) 65536 && list_all is_runnable calls
+are_runnable_calls calls = nat_le (length calls) most_calls && list_all is_runnable calls
 
 -- so are all calls of a client, whose user is one
 abbrev pub is_runnable_client : ClientCalls → Bool
@@ -45,8 +45,8 @@ pub record IsSmall (script : Script) : Type 0 where
   pub few : length script.clients ≤ 1
   pub calls : are_runnable_clients script.clients ≡ true
   pub stops : script.stops ≡ []
-  pub tries : script.tries ≡ 10000
-  pub grace : script.grace ≡ 64
+  pub tries : script.tries ≡ default_tries
+  pub grace : script.grace ≡ default_grace
   pub persist : script.persist ≡ true
 
 -- after i names the rows found are the root's and at most one for each, with room for so many, and the last has an id

@@ -36,13 +36,21 @@ is_file None = false
 is_file (Some (Dir mode owner max_names max_bytes)) = false
 is_file (Some (File len writer mode owner)) = true
 
+-- the mode of a new directory
+abbrev pub dir_mode : ℕ
+dir_mode = 493
+
 -- a new directory of this owner
 abbrev pub new_dir : List ℕ → Entry
-new_dir owner = Dir 493 owner None None
+new_dir owner = Dir dir_mode owner None None
 
--- before any call: the root alone, whose owner is hdfs
+-- who owns the root
+abbrev pub root_owner : List ℕ
+root_owner = codes "hdfs"
+
+-- before any call: the root alone
 abbrev pub opening : Namespace
-opening = ([], new_dir (codes "hdfs")) ∷ []
+opening = ([], new_dir root_owner) ∷ []
 
 -- with this entry at the path, in place of what stood there
 abbrev pub with_entry : Namespace → Path → Entry → Namespace

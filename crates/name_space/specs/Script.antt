@@ -39,13 +39,30 @@ numbered calls (suc number) = slice_get calls number
 abbrev pub call_of : Script → ClientNo → ℕ → Option Call
 call_of script client number = option_and_then (λ (c : ClientCalls). numbered c.calls number) (client_of script client)
 
+-- the most namenodes, clients and calls of a client
+abbrev pub most_namenodes : ℕ
+most_namenodes = 16
+
+abbrev pub most_clients : ℕ
+most_clients = 64
+
+abbrev pub most_calls : ℕ
+most_calls = 65536
+
+-- what a script has of conflicts and beats where it says nothing of them
+abbrev pub default_tries : ℕ
+default_tries = 10000
+
+abbrev pub default_grace : ℕ
+default_grace = 64
+
 -- from 1 to 1,000,000
 abbrev pub is_count : ℕ → Bool
 is_count n = nat_le 1 n && nat_le n 1000000
 
 -- the client's user is one, and its calls are in number and in themselves within their ranges
 abbrev pub is_client : ClientCalls → Bool
-is_client client = is_user client.user && nat_le (length client.calls) 65536 && list_all is_valid client.calls
+is_client client = is_user client.user && nat_le (length client.calls) most_calls && list_all is_valid client.calls
 
 -- the namenode of a stop exists, and its commit is in its range
 abbrev pub is_stop : ℕ → NodeNo × ℕ → Bool
@@ -57,8 +74,8 @@ differ stops = IsDistinct (λ (a b : NodeNo × ℕ). a.0.0 == b.0.0) stops
 
 -- everything in a script is within its range
 pub record IsScript (script : Script) : Type 0 where
-  pub namenodes : (1 ≤ script.namenodes) × (script.namenodes ≤ 16)
-  pub clients : (length script.clients ≤ 64) × (list_all is_client script.clients ≡ true)
+  pub namenodes : (1 ≤ script.namenodes) × (script.namenodes ≤ most_namenodes)
+  pub clients : (length script.clients ≤ most_clients) × (list_all is_client script.clients ≡ true)
   pub stops : (list_all (is_stop script.namenodes) script.stops ≡ true) × differ script.stops
   pub tries : is_count script.tries ≡ true
   pub grace : is_count script.grace ≡ true

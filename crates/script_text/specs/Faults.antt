@@ -8,7 +8,7 @@ use Rattle.hops_base.specs.First.{first_some}
 use Rattle.hops_base.specs.User.{is_user}
 use Rattle.hops_base.specs.declared.ids.NodeNo.{NodeNo}
 use Rattle.hops_base.specs.declared.path_text.PathFault.{PathFault}
-use Rattle.name_space.specs.Script.{is_count, is_stop}
+use Rattle.name_space.specs.Script.{most_namenodes, most_clients, most_calls, is_count, is_stop}
 use Rattle.serde_json.specs.Data.{Data, Members}
 use Rattle.serde_json.specs.Find.{as_bool, as_str, as_array, as_object}
 use Rattle.serde_json.specs.Read.{read}
@@ -62,7 +62,7 @@ has_user = has "user" (λ value. option_map_or is_user (as_str value) false)
 
 -- rule 13: the calls of a client are an array of at most 65,536
 abbrev pub has_calls : Members → Bool
-has_calls = has "calls" (is_short_array 65536)
+has_calls = has "calls" (is_short_array most_calls)
 
 -- what is wrong with the members of a client: the first of rules 11, 12 and 13, and then the first bad call
 abbrev pub client_members_fault : ℕ → Members → Option ScriptFault
@@ -117,7 +117,7 @@ has_version = has "version" (is_within 1 1)
 
 -- rule 5: there are 1 to 16 namenodes
 abbrev pub has_namenodes : Members → Bool
-has_namenodes = has "namenodes" (is_within 1 16)
+has_namenodes = has "namenodes" (is_within 1 most_namenodes)
 
 -- rules 6 and 7, of tries and grace: where the key is there, its value is a count
 abbrev pub may_count : String → Members → Bool
@@ -133,7 +133,7 @@ namenodes_in ms = unwrap_or (option_and_then as_whole (at_key "namenodes" ms)) 0
 
 -- rule 10: the clients are an array of at most 64
 abbrev pub has_clients : Members → Bool
-has_clients = has "clients" (is_short_array 64)
+has_clients = has "clients" (is_short_array most_clients)
 
 -- what is wrong with the members of a script: the first of rules 3 to 10, and then the first bad client
 abbrev pub members_fault : Members → Option ScriptFault

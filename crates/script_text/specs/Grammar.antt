@@ -2,7 +2,7 @@
 use Rattle.std.specs.Prelude.{◌≡◌, ℕ, true, List, [], map, Some, None, unwrap_or, Result, Ok, Err, ⊤}
 use Rattle.std.specs.List.{AllZip, AllByRecursion}
 use Rattle.hops_base.specs.Path.{text_of, names_in, path_fault}
-use Rattle.name_space.specs.Script.{ClientCalls, Script}
+use Rattle.name_space.specs.Script.{ClientCalls, Script, default_tries, default_grace}
 use Rattle.name_space.specs.declared.call.Call.{Call}
 pub use Rattle.name_space.specs.Call.{paths_of}
 use Rattle.serde_json.specs.Data.{Data, boolean, string, object, Members}
@@ -33,8 +33,8 @@ pub record Says (ms : Members) (script : Script) : Type 0 where
   pub namenodes : at_key "namenodes" ms ≡ Some (whole script.namenodes)
   pub clients : (values : List Data) × (at_key "clients" ms ≡ Some (row values)) × AllZip SaysClient values script.clients
   pub stops : unwrap_or (at_key "stops" ms) (row []) ≡ row (map stop_data script.stops)
-  pub tries : unwrap_or (at_key "tries" ms) (whole 10000) ≡ whole script.tries
-  pub grace : unwrap_or (at_key "grace" ms) (whole 64) ≡ whole script.grace
+  pub tries : unwrap_or (at_key "tries" ms) (whole default_tries) ≡ whole script.tries
+  pub grace : unwrap_or (at_key "grace" ms) (whole default_grace) ≡ whole script.grace
   pub persist : unwrap_or (at_key "persist" ms) (boolean true) ≡ boolean script.persist
 
 -- the bytes are a text of the script: they break no rule and say it

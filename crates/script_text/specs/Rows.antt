@@ -1,7 +1,7 @@
 -- Scripts that are worked out, and texts that are close to them. This project's own.
 use Prim.Native.String.{String}
 use Rattle.std.specs.Prelude.{ℕ, true, List, [], ◌∷◌, ◌++◌, codes}
-use Rattle.name_space.specs.Script.{ClientCalls, Script}
+use Rattle.name_space.specs.Script.{ClientCalls, Script, default_tries, default_grace}
 use Rattle.name_space.specs.declared.call.Call.{Call}
 use Rattle.name_space.specs.declared.call.Call.TheVariants.{Mkdirs, Stat}
 
@@ -11,7 +11,7 @@ client user calls = record { user = user; calls = calls }
 
 -- one namenode, these clients, and nothing else said
 abbrev pub plain_script : List ClientCalls → Script
-plain_script clients = record { namenodes = 1; clients = clients; stops = []; tries = 10000; grace = 64; persist = true }
+plain_script clients = record { namenodes = 1; clients = clients; stops = []; tries = default_tries; grace = default_grace; persist = true }
 
 -- the calls of the first script: a directory is made, and asked for its status
 abbrev pub first_calls : List Call
