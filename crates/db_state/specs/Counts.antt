@@ -1,5 +1,5 @@
 -- What quota rows count. This project's own.
-use Rattle.std.specs.Prelude.{◌≡◌, ℕ, Some}
+use Rattle.std.specs.Prelude.{◌≡◌, Some}
 use Rattle.name_space.specs.Namespace.{Namespace, Path, used_names, used_bytes}
 use Rattle.inode_table.specs.declared.inode.Inode.{Inode}
 use Rattle.quota_table.specs.declared.quota.QuotaRow.{QuotaRow}

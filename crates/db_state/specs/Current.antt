@@ -1,23 +1,21 @@
 -- When what a session has read is still so. This project's own.
-use Rattle.std.specs.Prelude.{◌≡◌, ◌≢◌, ℕ, ◌<◌, ◌+◌, Bool, true, false, not, ◌&&◌, ◌||◌, ◌==◌, nat_lt, if◌then◌else◌, List, [], ◌∷◌, ◌++◌, map, Option, Some, None, IfSome, option_map, ⊤}
+use Rattle.std.specs.Prelude.{◌≡◌, ℕ, ◌<◌, Bool, true, false, ◌==◌, nat_lt, if◌then◌else◌, List, [], ◌∷◌, ◌++◌, map, Option, Some, None, IfSome, option_map}
 use Rattle.std.specs.FinMap as map
-use Rattle.std.specs.List.{list_any, list_all, find, last_or, AllByRecursion, IsDistinct}
+use Rattle.std.specs.List.{list_any, list_all, find, AllByRecursion, IsDistinct}
 use Rattle.hops_base.specs.declared.ids.ClientNo.{ClientNo}
 use Rattle.hops_base.specs.declared.ids.InodeId.{InodeId}
 use Rattle.hops_base.specs.declared.ids.OpId.{OpId}
 use Rattle.hops_base.specs.declared.ids.Mode.{Mode}
 use Rattle.hops_base.specs.declared.key.Key.{Key}
 use Rattle.hops_base.specs.declared.key.Key.TheVariants as key
-use Rattle.hops_base.specs.Key.{key_cmp, same_key}
+use Rattle.hops_base.specs.Key.{same_key}
 use Rattle.name_space.specs.declared.call.Call.{Call}
 use Rattle.name_space.specs.declared.call.Call.TheVariants as call
-use Rattle.name_space.specs.Call.{paths_of}
 use Rattle.name_space.specs.Namespace.{Path}
 use Rattle.name_space.specs.Plain.{last_name}
 use Rattle.inode_table.specs.declared.inode.Inode.{Inode}
 use Rattle.inode_table.specs.declared.inode.Kind.{Kind}
 use Rattle.inode_table.specs.declared.inode.Kind.TheVariants.{Dir, File}
-use Rattle.inode_table.specs.Inode.{is_dir}
 use Rattle.quota_table.specs.declared.quota.QuotaRow.{QuotaRow}
 use Rattle.row_store.specs.Children.{child_count}
 use Rattle.db_state.specs.declared.view.Place.{Place}
@@ -25,7 +23,7 @@ use Rattle.db_state.specs.declared.view.View.{View}
 use Rattle.db_state.specs.State.{root_key}
 use Rattle.db_state.specs.Spelled.{Inodes}
 use Rattle.db_state.specs.Stands.{Quotas, quota_of}
-use Rattle.db_state.specs.Plan.{own_dir, own_row, last_found, plan}
+use Rattle.db_state.specs.Plan.{own_dir, last_found, plan}
 
 -- ---- what a place spells by itself
 
@@ -116,7 +114,8 @@ abbrev pub IsFree : Inodes → ℕ → Type 0
 IsFree inodes next = (at : Key) (row : Inode) → map.get inodes at ≡ Some row → row.id.0 < next
 
 -- the view of a client's call is current
-pub record IsCurrent (inodes : Inodes) (own : Option OpId) (client : ClientNo) (call : Call) (view : View) : Type 0 where
+pub record IsCurrent (inodes : Inodes) (quota_rows : Quotas) (own : Option OpId) (client : ClientNo) (call : Call) (view : View) : Type 0 where
   pub places : map (λ (place : Place). place.path) view.places.items ≡ places_of call view.places.items
   pub current : AllByRecursion (IsCurrentPlace inodes (plan client call view.places.items) own) view.places.items
+  pub quotas : SeesQuotas quota_rows (plan client call view.places.items) view.quotas.items
   pub next : IsFree inodes view.next.0

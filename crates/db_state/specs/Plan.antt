@@ -1,5 +1,5 @@
 -- The keys that a call locks, by the rows that were found for its paths. This project's own.
-use Rattle.std.specs.Prelude.{ℕ, ◌-◌, Bool, ◌&&◌, not, if◌then◌else◌, List, [], ◌∷◌, ◌++◌, map, length, take, Option, Some, None, option_map, option_to_list, nat_lt, slice_get}
+use Rattle.std.specs.Prelude.{◌-◌, Bool, not, if◌then◌else◌, List, [], ◌∷◌, ◌++◌, map, length, take, Option, None, option_map, option_to_list, nat_lt, slice_get}
 use Rattle.std.specs.List.{filter, flat_map}
 use Rattle.hops_base.specs.declared.ids.ClientNo.{ClientNo}
 use Rattle.hops_base.specs.declared.ids.Mode.{Mode}

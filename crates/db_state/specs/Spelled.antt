@@ -4,17 +4,13 @@ use Rattle.std.specs.FinMap as map
 use Rattle.hops_base.specs.declared.ids.InodeId.{InodeId}
 use Rattle.hops_base.specs.declared.key.Key.{Key}
 use Rattle.hops_base.specs.declared.key.Key.TheVariants as key
-use Rattle.hops_base.specs.Key.{key_cmp}
 use Rattle.name_space.specs.Namespace.{Path}
 use Rattle.inode_table.specs.declared.inode.Inode.{Inode}
 use Rattle.inode_table.specs.declared.inode.Kind.TheVariants.{Dir}
 use Rattle.commit_log.specs.declared.note.Note.{Note}
-use Rattle.commit_log.specs.Ids.{ids, id_at}
+use Rattle.commit_log.specs.Ids.{Numbering, ids, id_at}
+pub use Rattle.db_state.specs.State.{Inodes}
 use Rattle.db_state.specs.State.{root_key, root_row}
-
--- the inode rows by their keys
-abbrev pub Inodes : Type 0
-Inodes = map.FinMap key_cmp Inode
 
 -- the row of a name under a row
 abbrev pub child_of : Inodes → List ℕ → Option Inode → Option Inode
@@ -49,7 +45,11 @@ pub record IsTree (inodes : Inodes) (next : ℕ) : Type 0 where
   pub parents : (parent : InodeId) (name : List ℕ) (row : Inode) → map.get inodes (key.Inode parent name) ≡ Some row → parent.0 ≢ 0 → IsDirRow inodes parent
   pub spelled : (at : Key) (row : Inode) → map.get inodes at ≡ Some row → (up : List (List ℕ)) × (spelled inodes up ≡ Some row)
 
--- each row that a path spells has the id that the history gives the path, and the next free id is the history's
+-- each row that a path spells has the id that the numbering gives the path
+abbrev pub AreGiven : Inodes → Numbering → Type 0
+AreGiven inodes numbering = (path : Path) (row : Inode) → row_of inodes path ≡ Some row → id_at numbering path ≡ Some row.id.0
+
+-- the rows have the ids that the history gives to paths, and the next free id is the history's
 pub record IsNumbered (inodes : Inodes) (next : ℕ) (users : List (List ℕ)) (notes : List Note) : Type 0 where
-  pub given : (path : Path) (row : Inode) → row_of inodes path ≡ Some row → id_at (ids users notes) path ≡ Some row.id.0
+  pub given : AreGiven inodes (ids users notes)
   pub least : next ≡ (ids users notes).next

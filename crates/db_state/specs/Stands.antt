@@ -1,12 +1,11 @@
 -- Which namespace the rows stand for. This project's own.
-use Rattle.std.specs.Prelude.{◌≡◌, ◌⊎◌, ℕ, List, map, Option, Some, None, IsSome, is_some, option_map, option_and_then}
+use Rattle.std.specs.Prelude.{◌≡◌, ◌⊎◌, map, Option, Some, None, IsSome, is_some, option_map, option_and_then}
 use Rattle.std.specs.Option.{option_or}
 use Rattle.std.specs.FinMap as map
 use Rattle.std.specs.List.{IsDistinct}
 use Rattle.hops_base.specs.declared.ids.InodeId.{InodeId}
 use Rattle.hops_base.specs.declared.key.Key.{Key}
 use Rattle.hops_base.specs.declared.key.Key.TheVariants as key
-use Rattle.hops_base.specs.Key.{key_cmp}
 use Rattle.hops_base.specs.Path.{same_path}
 use Rattle.name_space.specs.declared.entry.Entry.{Entry}
 use Rattle.name_space.specs.declared.entry.Entry.TheVariants as entry
@@ -15,11 +14,8 @@ use Rattle.inode_table.specs.declared.inode.Inode.{Inode}
 use Rattle.inode_table.specs.declared.inode.Kind.{Kind}
 use Rattle.inode_table.specs.declared.inode.Kind.TheVariants.{Dir, File}
 use Rattle.quota_table.specs.declared.quota.QuotaRow.{QuotaRow}
+pub use Rattle.db_state.specs.State.{Quotas}
 use Rattle.db_state.specs.Spelled.{Inodes, row_of}
-
--- the quota rows by their keys
-abbrev pub Quotas : Type 0
-Quotas = map.FinMap key_cmp QuotaRow
 
 -- the quota row of an inode
 abbrev pub quota_of : Quotas → InodeId → Option QuotaRow

@@ -1,5 +1,5 @@
 -- The tables and the book as plain maps and lists.
-use Rattle.std.specs.Prelude.{◌≡◌, ℕ, ◌<◌, ◌≤◌, List, [], ◌∷◌, None, false, Some, codes}
+use Rattle.std.specs.Prelude.{ℕ, List, [], None, false, codes}
 use Rattle.std.specs.FinMap as map
 use Rattle.hops_base.specs.declared.key.Key.{Key}
 use Rattle.hops_base.specs.declared.key.Key.TheVariants as key
@@ -7,11 +7,27 @@ use Rattle.hops_base.specs.Key.{key_cmp}
 use Rattle.name_space.specs.Namespace.{dir_mode, root_owner}
 use Rattle.inode_table.specs.declared.inode.Inode.{Inode}
 use Rattle.inode_table.specs.declared.inode.Kind.TheVariants.{Dir}
+use Rattle.quota_table.specs.declared.quota.QuotaRow.{QuotaRow}
 use Rattle.commit_log.specs.declared.note.Note.{Note}
 
--- the inode rows by key, the notes of the book, and the next free inode id
+-- the inode rows by their keys
+abbrev pub Inodes : Type 0
+Inodes = map.FinMap key_cmp Inode
+
+-- the quota rows by their keys
+abbrev pub Quotas : Type 0
+Quotas = map.FinMap key_cmp QuotaRow
+
+-- the rows of all tables
+pub record Tables : Type 0 where
+  pub inodes : Inodes
+  pub quotas : Quotas
+
+-- the rows of all tables, the users that the clients act for, the notes of the book, and the next free inode id
 pub record State : Type 0 where
-  pub inodes : map.FinMap key_cmp Inode
+  pub inodes : Inodes
+  pub quotas : Quotas
+  pub users : List (List ℕ)
   pub notes : List Note
   pub next : ℕ
 
@@ -28,10 +44,8 @@ abbrev pub root_row : Inode
 root_row = new_dir 1 root_owner
 
 -- before anything happened: the root alone
-abbrev pub opening : State
-opening = record { inodes = map.insert map.empty root_key root_row; notes = []; next = 2 }
+abbrev pub opening_rows : Inodes
+opening_rows = map.insert map.empty root_key root_row
 
--- what always holds of the inode rows: their ids are from 1 on and below the next free one, and the root's row is there
-pub record IsKept (inodes : map.FinMap key_cmp Inode) (next : ℕ) : Type 0 where
-  pub ids : (k : Key) (inode : Inode) → map.get inodes k ≡ Some inode → (1 ≤ inode.id.0) × (inode.id.0 < next)
-  pub root : map.get inodes root_key ≡ Some root_row
+abbrev pub opening : List (List ℕ) → State
+opening users = record { inodes = opening_rows; quotas = map.empty; users = users; notes = []; next = 2 }

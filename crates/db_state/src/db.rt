@@ -1,27 +1,32 @@
 //! The tables and the book.
 
-ghost use Rattle.std.specs.Prelude.{◌≡◌, ◌<◌, ◌≤◌, true, Some, IfOk, IfSome, OnOk, OnErr, option_copied};
+ghost use Rattle.std.specs.Prelude.{◌≡◌, ◌<◌, ◌≤◌, ◌^◌, true, Some, IfOk, IfSome, OnOk, OnErr, option_copied, slice_get};
 ghost use Rattle.std.specs.FinMap as map;
-ghost use Rattle.std.specs.List.{list_all};
 ghost use Rattle.row_store.specs.Children.{child_count, IsChildren};
 ghost use Rattle.db_state.specs.State.{opening, root_key, root_row};
-ghost use Rattle.db_state.specs.Written.{committed, is_fit};
+ghost use Rattle.db_state.specs.Consistent.{IsConsistent};
+ghost use Rattle.db_state.specs.Stands.{quota_of};
+ghost use Rattle.db_state.specs.Written.{committed, next_after};
 
 use crate::rows::{next_id, reserve_rows, write_notes, write_rows};
+use crate::settings::Settings;
+use crate::tables::Tables;
 use crate::writes::Writes;
 use commit_log::{Book, Note};
-use hops_base::{InodeId, Key, Name, NoMemory, User};
-use inode_table::{Inode, InodeTable, Kind};
+use hops_base::{ClientNo, InodeId, Key, Name, NoMemory, User};
+use inode_table::{Inode, Kind};
+use quota_table::QuotaRow;
 use std::alloc::Global;
 use std::marker::Model;
 use std::slice;
 
-/// The tables, the book, and the next free inode id. Every inode id is below that, and the root's row is
-/// always there.
+/// The tables, the settings, the book, and the next free inode id. The rows and the book always accord: the
+/// rows stand for the namespace to which the history in the book leads, with its ids and its counts.
 #[derive(Drop)]
 pub struct Db {
-    inodes: InodeTable,
+    tables: Tables,
     top: Key,
+    settings: Settings,
     book: Book,
     next: u64,
 }
@@ -29,36 +34,47 @@ pub struct Db {
 impl Model for Db {
     ghost use Rattle.std.specs.Prelude.{◌≡◌};
     ghost use Rattle.std.specs.Coded.{codes};
-    ghost use Rattle.db_state.specs.State.{State, IsKept, root_key};
+    ghost use Rattle.db_state.specs.State.{State, root_key};
+    ghost use Rattle.db_state.specs.Consistent.{IsConsistent};
     ghost use Rattle.db_state.specs.Codes.{coded_rows};
     ghost use Rattle.inode_table.specs.declared.inode.Inode.{Inode};
+    ghost use Rattle.quota_table.specs.declared.quota.QuotaRow.{QuotaRow};
 
     ghost Value = { State };
 
-    ghost coded = { Prim.hlevel (codes, coded_rows {R = Inode}) };
+    ghost coded = { Prim.hlevel (codes, coded_rows {R = Inode}, coded_rows {R = QuotaRow}) };
 
-    ghost view = { λ d. record { inodes = d.inodes.rows; notes = d.book.notes; next = d.next } };
+    ghost view = { λ d. record { inodes = d.tables.inodes.rows; quotas = d.tables.quotas.rows; users = d.settings.users; notes = d.book.notes; next = d.next } };
 
-    ghost invariant = { λ d. IsKept d.inodes.rows d.next × (d.top ≡ root_key) };
+    ghost invariant = { λ d. IsConsistent (record { inodes = d.tables.inodes.rows; quotas = d.tables.quotas.rows; users = d.settings.users; notes = d.book.notes; next = d.next }) × (d.top ≡ root_key) };
 }
 
 impl Db {
-    /// The opening namespace, `/` alone, and an empty book.
-    pub fn start(alloc: Global) -> Result<Db, NoMemory>
-        ensures { IfOk result (λ db. db ≡ opening) }
+    /// The opening namespace, `/` alone, and an empty book, for the users of these settings.
+    pub fn start(alloc: Global, settings: &Settings) -> Result<Db, NoMemory>
+        ensures { IfOk result (λ db. db ≡ opening settings.now.users) }
     {
         let top = make_root_key(alloc)?;
         let key = top.copy()?;
         let row = make_root_row(alloc)?;
-        let mut inodes = InodeTable::new(alloc)?;
-        inodes.reserve(slice::from_ref(&key))?;
-        inodes.insert(key, row);
+        let settings = settings.copy()?;
+        let mut tables = Tables::new(alloc)?;
+        tables.inodes.reserve(slice::from_ref(&key))?;
+        tables.inodes.insert(key, row);
         Ok(Db {
-            inodes,
+            tables,
             top,
+            settings,
             book: Book::new(alloc),
             next: 2,
         })
+    }
+
+    /// That the rows and the book accord.
+    pub fn accord(&self)
+        ensures { IsConsistent self.now }
+    {
+        let _ = &self.tables;
     }
 
     /// The inode row of a key. None exactly where no row is there. It takes no memory.
@@ -66,7 +82,21 @@ impl Db {
         ensures row { option_copied result ≡ map.get self.now.inodes key.now }
         ensures ids { IfSome result (λ row. (1 ≤ row.now.id.0) × (row.now.id.0 < self.now.next)) }
     {
-        self.inodes.row(key)
+        self.tables.inodes.row(key)
+    }
+
+    /// The quota row of a directory. None exactly where it has none. It takes no memory.
+    pub fn quota(&self, id: InodeId) -> Option<&QuotaRow>
+        ensures { option_copied result ≡ quota_of self.now.quotas id }
+    {
+        self.tables.quotas.row(&Key::Quota(id))
+    }
+
+    /// The user that a client acts for. None exactly where there is no such client.
+    pub fn user(&self, client: ClientNo) -> Option<&User>
+        ensures { option_copied result ≡ slice_get self.now.users client.0 }
+    {
+        self.settings.user(client)
     }
 
     /// The key of the root's row.
@@ -82,7 +112,7 @@ impl Db {
         ensures there { map.get self.now.inodes root_key ≡ Some result.now }
         ensures next { 1 < self.now.next }
     {
-        match self.inodes.row(&self.top) {
+        match self.tables.inodes.row(&self.top) {
             Some(row) => row,
             None => unreachable!(),
         }
@@ -92,14 +122,14 @@ impl Db {
     pub fn child_count(&self, parent: InodeId) -> u64
         ensures { result ≡ child_count self.now.inodes parent }
     {
-        self.inodes.child_count(parent)
+        self.tables.inodes.child_count(parent)
     }
 
     /// The names of the inode rows below a parent, rising.
     pub fn children(&self, parent: InodeId) -> Result<Vec<Name>, NoMemory>
         ensures { IfOk result (λ names. IsChildren self.now.inodes parent names.items) }
     {
-        self.inodes.children(parent)
+        self.tables.inodes.children(parent)
     }
 
     /// The next free inode id.
@@ -123,17 +153,18 @@ impl Db {
         self.book
     }
 
-    /// Writes the rows and the notes. All memory is taken before the first write: want of it changes
-    /// nothing.
+    /// Writes the rows and the notes, which accord. All memory is taken before the first write: want of it
+    /// changes nothing.
     pub fn commit(&mut self, writes: Writes, notes: Vec<Note>) -> Result<(), NoMemory>
-        requires { list_all is_fit writes.items ≡ true }
+        requires accord { IsConsistent (committed self.old writes.items notes.items) }
+        requires ids { next_after self.old.next writes.items < 2 ^ 64 }
         ensures ok { OnOk result (self.new ≡ committed self.old writes.items notes.items) }
         ensures err { OnErr result (self.new ≡ self.old) }
     {
-        reserve_rows(&mut self.inodes, writes.as_slice())?;
+        reserve_rows(&mut self.tables, writes.as_slice())?;
         self.book.reserve(notes.len() as u64)?;
         self.next = next_id(self.next, writes.as_slice());
-        write_rows(&mut self.inodes, writes.into_vec());
+        write_rows(&mut self.tables, writes.into_vec());
         write_notes(&mut self.book, notes);
         Ok(())
     }

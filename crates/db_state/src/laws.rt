@@ -1,4 +1,4 @@
-//! Laws of what paths spell over the inode rows.
+//! Laws of what paths spell over the inode rows, and of rows and books that accord.
 
 ghost use Rattle.std.specs.Prelude.{◌≡◌, ◌≤◌, ◌+◌, ℕ, false, List, Some, None, [], ◌∷◌, length, reverse, if◌then◌else◌};
 ghost use Rattle.std.specs.FinMap as map;
@@ -8,11 +8,16 @@ ghost use Rattle.inode_table.specs.declared.inode.Inode.{Inode};
 ghost use Rattle.inode_table.specs.declared.inode.Kind.TheVariants.{Dir};
 ghost use Rattle.name_space.specs.Namespace as space;
 ghost use Rattle.name_space.specs.Namespace.{Namespace, entry_at, with_entry};
-ghost use Rattle.db_state.specs.State.{opening};
-ghost use Rattle.db_state.specs.Spelled.{Inodes, spelled, IsTree};
+ghost use Rattle.db_state.specs.State.{State, Tables, opening, opening_rows};
+ghost use Rattle.db_state.specs.Spelled.{Inodes, spelled, IsTree, AreGiven};
 ghost use Rattle.name_space.specs.Plain.{with_dirs};
 ghost use Rattle.db_state.specs.NewDirs.{new_dirs, paths_below, FirstMissing, Unremoved};
-ghost use Rattle.db_state.specs.Written.{written};
+ghost use Rattle.db_state.specs.Written.{written, committed};
+ghost use Rattle.commit_log.specs.declared.note.Note.{Note};
+ghost use Rattle.commit_log.specs.Ids.{Numbering, with_new};
+ghost use Rattle.commit_log.specs.Parts.{did};
+ghost use Rattle.commit_log.specs.Told.{cut_in};
+ghost use Rattle.db_state.specs.Consistent.{IsConsistent};
 ghost use Rattle.db_state.specs.Stands.{Quotas, entry_of, Stands};
 
 /// A row has one path.
@@ -40,14 +45,28 @@ pub fn a_new_row_adds_its_entry()
 
 /// The opening rows spell a tree, and stand for the opening namespace.
 pub fn the_opening_rows_stand()
-    ensures tree { IsTree opening.inodes opening.next }
-    ensures stands { Stands opening.inodes map.empty [] space.opening }
+    ensures tree { IsTree opening_rows 2 }
+    ensures stands { Stands opening_rows map.empty [] space.opening }
 {}
 
-/// Rows with a chain of new directories below a directory spell a tree again, and stand for the namespace with them.
+/// Rows with a chain of new directories below a directory spell a tree again, stand for the namespace with them, and have
+/// the ids that a numbering gives to their paths in turn; the quota rows stay.
 pub fn a_chain_of_new_rows_adds_its_directories()
-    ensures tree { (names : List (List ℕ)) (inodes : Inodes) (next : ℕ) (tree : IsTree inodes next) (dir : List (List ℕ)) (parent : Inode) (owner : List ℕ) → spelled inodes dir ≡ Some parent → parent.kind ≡ Dir → FirstMissing inodes parent.id names →
-        IsTree (written inodes (new_dirs parent.id.0 next owner names)) (next + length names) }
-    ensures stands { (names : List (List ℕ)) (inodes : Inodes) (next : ℕ) (tree : IsTree inodes next) (quotas : Quotas) (removed space : Namespace) → Stands inodes quotas removed space → (dir : List (List ℕ)) (parent : Inode) (owner : List ℕ) → spelled inodes dir ≡ Some parent → parent.kind ≡ Dir → FirstMissing inodes parent.id names → Unremoved removed (paths_below (reverse dir) names) →
-        Stands (written inodes (new_dirs parent.id.0 next owner names)) quotas removed (with_dirs space owner (paths_below (reverse dir) names)) }
+    ensures tree { (names : List (List ℕ)) (tables : Tables) (next : ℕ) (tree : IsTree tables.inodes next) (dir : List (List ℕ)) (parent : Inode) (owner : List ℕ) → spelled tables.inodes dir ≡ Some parent → parent.kind ≡ Dir → FirstMissing tables.inodes parent.id names →
+        IsTree (written tables (new_dirs parent.id.0 next owner names)).inodes (next + length names) }
+    ensures stands { (names : List (List ℕ)) (tables : Tables) (next : ℕ) (tree : IsTree tables.inodes next) (quotas : Quotas) (removed space : Namespace) → Stands tables.inodes quotas removed space → (dir : List (List ℕ)) (parent : Inode) (owner : List ℕ) → spelled tables.inodes dir ≡ Some parent → parent.kind ≡ Dir → FirstMissing tables.inodes parent.id names → Unremoved removed (paths_below (reverse dir) names) →
+        Stands (written tables (new_dirs parent.id.0 next owner names)).inodes quotas removed (with_dirs space owner (paths_below (reverse dir) names)) }
+    ensures given { (names : List (List ℕ)) (tables : Tables) (next : ℕ) (tree : IsTree tables.inodes next) (dir : List (List ℕ)) (parent : Inode) (owner : List ℕ) → spelled tables.inodes dir ≡ Some parent → parent.kind ≡ Dir → FirstMissing tables.inodes parent.id names → (numbering : Numbering) → numbering.next ≡ next → AreGiven tables.inodes numbering →
+        AreGiven (written tables (new_dirs parent.id.0 next owner names)).inodes (with_new numbering (paths_below (reverse dir) names)) }
+    ensures quotas { (names : List (List ℕ)) (tables : Tables) (parent next : ℕ) (owner : List ℕ) → (written tables (new_dirs parent next owner names)).quotas ≡ tables.quotas }
+{}
+
+/// Before anything happened the rows and the book accord.
+pub fn the_opening_is_consistent()
+    ensures { (users : List (List ℕ)) → IsConsistent (opening users) }
+{}
+
+/// Where the rows and the book accord, they do so with one note more that is neither a Did nor a Cut.
+pub fn accord_noted()
+    ensures { (state : State) (note : Note) → IsConsistent state → did note ≡ None → cut_in note ≡ None → IsConsistent (committed state [] (note ∷ [])) }
 {}

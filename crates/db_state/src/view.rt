@@ -2,6 +2,7 @@
 
 use hops_base::{InodeId, ItemList, Key, Path};
 use inode_table::Inode;
+use quota_table::QuotaRow;
 
 /// What was read for one path of a call.
 #[derive(Debug, Drop)]
@@ -22,10 +23,15 @@ pub type FoundList = ItemList<(Key, Inode)>;
 /// One place for each path of a call.
 pub type PlaceList = ItemList<Place>;
 
+/// Quota rows with the ids of their directories.
+pub type QuotaList = ItemList<(InodeId, QuotaRow)>;
+
 /// What a session has read for its call, from which alone the call is answered.
 #[derive(Debug, Drop)]
 pub struct View {
     pub places: PlaceList,
+    /// The quota rows at the quota keys that the call locks, each once.
+    pub quotas: QuotaList,
     /// The next free inode id.
     pub next: InodeId,
 }

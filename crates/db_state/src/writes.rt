@@ -7,6 +7,7 @@ ghost use Rattle.hops_base.specs.Key.{same_key};
 
 use hops_base::{ItemList, Key, NoMemory};
 use inode_table::Inode;
+use quota_table::QuotaRow;
 use std::alloc::Global;
 use std::marker::Model;
 
@@ -14,6 +15,7 @@ use std::marker::Model;
 #[derive(Debug, Drop)]
 pub enum Row {
     Inode(Inode),
+    Quota(QuotaRow),
 }
 
 /// Keys with their new rows, each key once; none removes the row of the key. It is seen as the list of

@@ -1,5 +1,7 @@
 pub mod Ends
-pub mod Running
+pub mod Reading
+pub mod Run
 pub mod Status
 pub mod Transfer
+pub mod Turning
 pub mod Words

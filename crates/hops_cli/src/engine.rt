@@ -1,17 +1,28 @@
 //! The calls of a script, run in their order.
 
-ghost use Rattle.std.specs.Prelude.{◌≡◌, ◌+◌, ◌^◌, ◌<◌, ◌≤◌, true, OnOk};
-ghost use Rattle.hops_cli.specs.Running.{is_runnable, are_runnable_calls, IsSmall};
+ghost use Rattle.std.specs.Prelude.{◌≡◌, ◌≤◌, ◌∷◌, [], true, length, IfOk, OnOk};
+ghost use Rattle.name_space.specs.Script.{users_of};
+ghost use Rattle.std.specs.List.{list_all};
+ghost use Rattle.name_space.specs.Call.{is_valid};
+ghost use Rattle.name_space.specs.Script.{is_client};
+ghost use Rattle.script_text.specs.SmallForm.{is_small_call, is_small_client};
+ghost use Rattle.hops_cli.specs.Run.{IsPlainScript, IsRun};
+ghost use Rattle.hops_cli.specs.Turning.{users_in, IsNew, IsReady, IsTurned, AreTurned, AreAllTurned};
 
 use crate::resolve::view_of;
-use crate::tree::tree_of;
 use commit_log::{AnswerLine, Book, CallEnd, Note};
-use db_state::{Db, Outcome};
-use hops_base::{ClientNo, NoMemory, NodeNo, Path, SessionId, User};
+use db_state::{Db, Outcome, Settings, tree_of};
+use hops_base::{ClientNo, NoMemory, NodeNo, SessionId, StopList, User, UserList};
 use inode_ops::outcome;
-use name_space::{Call, Entry};
+use name_space::{Call, laws};
+use report_text::TreeList;
 use script_text::{ClientCalls, Script};
 use std::alloc::Global;
+
+// The one client and the one namenode of a script that is run.
+const CLIENT: ClientNo = ClientNo(0);
+
+const NODE: NodeNo = NodeNo(0);
 
 /// What a run leaves.
 #[derive(Drop)]
@@ -21,18 +32,19 @@ pub struct Ran {
     /// What was answered, by client and call.
     pub answers: Vec<AnswerLine>,
     /// The last namespace in path order, `/` first.
-    pub tree: Vec<(Path, Entry)>,
+    pub tree: TreeList,
 }
 
 /// Runs the clients' calls in order on a new namespace.
 pub fn run(alloc: Global, script: &Script) -> Result<Ran, NoMemory>
-    requires { IsSmall script.now }
+    requires { IsPlainScript script.now }
+    ensures { IfOk result (λ ran. IsRun script.now ran.book.notes ran.answers.items ran.tree.items) }
 {
-    let mut db = Db::start(alloc)?;
+    let settings = settings_of(alloc, script)?;
+    let mut db = Db::start(alloc, &settings)?;
     let mut answers = Vec::new(alloc);
-    if let [client] = script.clients() {
-        run_client(alloc, &mut db, ClientNo(0), client, &mut answers)?;
-    }
+    run_clients(alloc, &mut db, script.clients(), &mut answers)?;
+    db.accord();
     let tree = tree_of(alloc, &db)?;
     Ok(Ran {
         book: db.into_book(),
@@ -41,22 +53,61 @@ pub fn run(alloc: Global, script: &Script) -> Result<Ran, NoMemory>
     })
 }
 
+// What a database is to know of the script.
+fn settings_of(alloc: Global, script: &Script) -> Result<Settings, NoMemory>
+    requires { IsPlainScript script.now }
+    ensures { IfOk result (λ settings. settings.users ≡ users_of script.now) }
+{
+    let mut users = UserList::new(alloc);
+    users.reserve(script.clients().len() as u64)?;
+    for client in script.clients() {
+        users.push(client.user().copy()?);
+    }
+    Ok(Settings::new(
+        script.namenodes(),
+        users,
+        script.grace(),
+        StopList::new(alloc),
+    ))
+}
+
+// There is at most one client.
+fn run_clients(
+    alloc: Global,
+    db: &mut Db,
+    clients: &[ClientCalls],
+    answers: &mut Vec<AnswerLine>,
+) -> Result<(), NoMemory>
+    requires few { length clients.now ≤ 1 }
+    requires small { list_all is_small_client clients.now ≡ true }
+    requires valid { list_all is_client clients.now ≡ true }
+    requires new { IsNew (users_in clients.now) db.old answers.old.items }
+    ensures { OnOk result (AreAllTurned clients.now db.new answers.new.items) }
+{
+    match clients {
+        [] => Ok(()),
+        [client] => run_client(alloc, db, client, answers),
+        _ => unreachable!(),
+    }
+}
+
 fn run_client(
     alloc: Global,
     db: &mut Db,
-    number: ClientNo,
     client: &ClientCalls,
     answers: &mut Vec<AnswerLine>,
 ) -> Result<(), NoMemory>
-    requires runnable { are_runnable_calls client.now.calls ≡ true }
-    requires ids { db.old.next < 2 ^ 40 }
-    ensures { OnOk result (db.new.next ≤ db.old.next + 65536000) }
+    requires small { is_small_client client.now ≡ true }
+    requires valid { is_client client.now ≡ true }
+    requires new { IsNew (client.now.user ∷ []) db.old answers.old.items }
+    ensures { OnOk result (AreTurned (client.now.user ∷ []) client.now.calls (length client.now.calls) db.new answers.new.items) }
 {
     for (i, call) in client.calls().iter().enumerate() {
-        let end = run_call(alloc, db, number, i as u32 + 1, client.user(), call)?;
+        let number = i as u32 + 1;
+        let end = run_call(alloc, db, number, client.user(), call)?;
         answers.push(AnswerLine {
-            client: number,
-            call: i as u32 + 1,
+            client: CLIENT,
+            call: number,
             end,
         })?;
     }
@@ -67,23 +118,25 @@ fn run_client(
 fn run_call(
     alloc: Global,
     db: &mut Db,
-    client: ClientNo,
     number: u32,
     user: &User,
     call: &Call,
 ) -> Result<CallEnd, NoMemory>
-    requires runnable { is_runnable call.now ≡ true }
-    requires ids { db.old.next < 2 ^ 41 }
-    ensures { OnOk result (db.new.next ≤ db.old.next + 1000) }
+    requires small { is_small_call call.now ≡ true }
+    requires valid { is_valid call.now ≡ true }
+    requires ready { IsReady db.old user.now }
+    ensures { IfOk result (λ end. IsTurned db.old db.new number call.now end) }
 {
+    db.accord();
+    laws::plain_keeps_a_namespace();
     let (view, reads) = view_of(alloc, db, call)?;
-    let Outcome::Answer(reply, writes) = outcome(alloc, &view, client, user, call)? else {
+    let Outcome::Answer(reply, writes) = outcome(alloc, &view, CLIENT, user, call)? else {
         unreachable!()
     };
-    let session = SessionId(db.book().len() / 2 + 1);
-    let open = Note::Open(session, client, number, NodeNo(0));
+    let session = SessionId(u64::from(number));
     let told = reply.copy()?;
-    let did = Note::Did(session, client, number, call.copy()?, reads, reply);
+    let did = Note::Did(session, CLIENT, number, call.copy()?, reads, reply);
+    let open = Note::Open(session, CLIENT, number, NODE);
     let notes = vec![in alloc; open, did]?;
     db.commit(writes, notes)?;
     Ok(CallEnd::Done(db.book().len() - 1, told))

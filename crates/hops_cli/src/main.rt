@@ -1,32 +1,30 @@
 //! `hops`, the program: it reads a script from standard input, runs it and writes its report.
 //!
-//! It stands on `inode_ops` and `db_state` for the calls, on `commit_log` for the book, on `script_text` and
-//! `report_text` for the texts, and on `serde_json` for JSON values. It promises on [`top`] which words are
-//! a command, that each failure of a device has its cause, that too large an input is told exactly, and
-//! that what is written at any answer is the front of one text.
+//! It stands on `inode_ops` and `db_state` for the calls, on `commit_log` for the book, and on `script_text` and
+//! `report_text` for the texts. It promises on [`top`] that what is written is the report of a script's run,
+//! whose book, answers and tree tell one legal history of a plain namespace; which words are a command; that
+//! each failure of a device has its cause; that too large an input is told exactly; and that a script is
+//! answered as not built exactly where it is none of the form that is.
 #![tactic(auto)]
 
-ghost use Rattle.std.specs.Prelude.{None, map};
+ghost use Rattle.std.specs.Prelude.{None, map, IfOk};
 ghost use Rattle.std.specs.String.{string_bytes};
 ghost use Rattle.hops_cli.specs.Ends.{Ends};
-ghost use Rattle.hops_cli.specs.Running.{IsSmall};
+ghost use Rattle.hops_cli.specs.Run.{IsPlainScript, IsReportOf};
 ghost use Rattle.hops_cli.specs.Words.{usage_place};
 
 mod engine;
 mod give_out;
 mod resolve;
-mod small_form;
 mod status;
 mod streams;
 mod take_in;
-mod tree;
 mod words;
 
 use give_out::{GivenOut, give_all};
 use hops_base::{NoMemory, Sink, Source};
 use report_text::report_of;
-use script_text::Script;
-use small_form::{FormFault, read_small_form};
+use script_text::{Script, SmallFormFault, read_small_form};
 pub use status::Status;
 use std::alloc::Global;
 use std::process::ExitCode;
@@ -62,10 +60,13 @@ pub fn run_script<S: Source, W: Sink>(alloc: Global, source: &mut S, sink: &mut 
         TakenIn::Failed => return Status::ReadFault,
         TakenIn::NoMemory => return Status::NoMemory,
     };
-    let text = match report_text(alloc, &bytes) {
-        Ok(text) => text,
-        Err(FormFault::Bad) => return Status::Unbuilt { client: 0, call: 0 },
-        Err(FormFault::NoMemory) => return Status::NoMemory,
+    let script = match read_small_form(alloc, &bytes) {
+        Ok(script) => script,
+        Err(SmallFormFault::Bad) => return Status::Unbuilt { client: 0, call: 0 },
+        Err(SmallFormFault::NoMemory) => return Status::NoMemory,
+    };
+    let Ok(text) = run_report(alloc, &script) else {
+        return Status::NoMemory;
     };
     match give_all(sink, &text) {
         GivenOut::All => Status::Done,
@@ -74,20 +75,13 @@ pub fn run_script<S: Source, W: Sink>(alloc: Global, source: &mut S, sink: &mut 
     }
 }
 
-// The report of the run of the script that these bytes are.
-fn report_text(alloc: Global, bytes: &[u8]) -> Result<Vec<u8>, FormFault> {
-    let script = read_small_form(alloc, bytes)?;
-    match run_report(alloc, &script) {
-        Ok(text) => Ok(text),
-        Err(NoMemory) => Err(FormFault::NoMemory),
-    }
-}
-
+// The report of the run of the script.
 fn run_report(alloc: Global, script: &Script) -> Result<Vec<u8>, NoMemory>
-    requires { IsSmall script.now }
+    requires { IsPlainScript script.now }
+    ensures { IfOk result (λ text. IsReportOf script.now text.items) }
 {
     let ran = engine::run(alloc, script)?;
-    report_of(alloc, script, &ran.book, &ran.answers, &ran.tree)
+    report_of(alloc, script, &ran.book, &ran.answers, ran.tree.as_slice())
 }
 
 fn main(rt: HostRuntime) -> ExitCode {

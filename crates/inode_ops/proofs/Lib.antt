@@ -1,2 +1,10 @@
-pub mod IdLemmas
+pub mod CountLemmas
 pub mod MadeLemmas
+pub mod MissingLemmas
+pub mod OutcomeLemmas
+pub mod PlaceLemmas
+pub mod QuotaLemmas
+pub mod RaiseLemmas
+pub mod RaisingLemmas
+pub mod TableLemmas
+pub mod WalkLemmas

@@ -1,7 +1,8 @@
 //! The calls on inodes.
 
 ghost use Rattle.std.specs.Prelude.{IfOk};
-ghost use Rattle.inode_ops.specs.Outcomes.{IsViewOf, Answers, TakesIdsOf};
+ghost use Rattle.inode_ops.specs.Outcomes.{IsViewOf};
+ghost use Rattle.inode_ops.specs.Table.{IsCallsTable};
 
 use crate::directories::mkdirs;
 use crate::status::stat;
@@ -10,8 +11,9 @@ use hops_base::{ClientNo, NoMemory, User};
 use name_space::Call;
 use std::alloc::Global;
 
-/// What the call of this client and user does on the namespace of which the view was read. It writes
-/// nothing itself, and only want of memory is refused.
+/// What the call of this client and user does on the namespace of which the view was read: the reply, and
+/// the rows to write, which are none where the call is refused. It writes nothing itself, and its one error
+/// is want of memory.
 pub fn outcome(
     alloc: Global,
     view: &View,
@@ -20,14 +22,13 @@ pub fn outcome(
     call: &Call,
 ) -> Result<Outcome, NoMemory>
     requires { IsViewOf view.now call.now }
-    ensures answer { IfOk result (λ outcome. Answers view.now user.now call.now outcome) }
-    ensures ids { IfOk result (λ outcome. TakesIdsOf view.now call.now outcome) }
+    ensures { IfOk result (IsCallsTable view.now _client user.now call.now) }
 {
     let Some(place) = view.places.get(0) else {
         unreachable!()
     };
     match call {
-        Call::Mkdirs(_) => mkdirs(alloc, place, view.next, user),
+        Call::Mkdirs(_) => mkdirs(alloc, place, view.quotas.as_slice(), view.next, user),
         Call::Stat(_) => stat(alloc, place),
         _ => unreachable!(),
     }

@@ -1,41 +1,77 @@
 //! `mkdirs`.
 
-ghost use Rattle.std.specs.Prelude.{◌≡◌, ◌+◌, ◌-◌, ◌^◌, ◌<◌, ◌≤◌, length, IfOk};
+ghost use Rattle.std.specs.Prelude.{◌≡◌, ◌+◌, ◌^◌, ◌<◌, ◌≤◌, length, IfOk};
 ghost use Rattle.db_state.specs.State.{new_dir};
-ghost use Rattle.inode_ops.specs.Outcomes.{CanMake, AnswersMkdirs, IsRefused, TakesIds};
 ghost use Rattle.db_state.specs.NewDirs.{new_dirs};
+ghost use Rattle.inode_ops.specs.Outcomes.{CanMake, CanRaise};
+ghost use Rattle.inode_ops.specs.Steps.{AnswersMkdirs, MakesMissing, IsTold, IsRefused};
 
 use crate::place::{deepest, is_whole};
+use crate::quotas::{first_full, raise};
 use db_state::{Outcome, Place, Row, Writes};
 use hops_base::{InodeId, Key, Name, NoMemory, User};
 use inode_table::{Inode, Kind};
 use name_space::{Exception, Reply};
+use quota_table::QuotaRow;
 use std::alloc::Global;
 
-/// Makes the directory and those above it that are missing.
-pub fn mkdirs(alloc: Global, place: &Place, next: InodeId, user: &User) -> Result<Outcome, NoMemory>
-    requires { CanMake place.now next.0 }
-    ensures answer { IfOk result (λ outcome. AnswersMkdirs place.now next.0 user.now outcome) }
-    ensures ids { IfOk result (TakesIds next.0 (length place.now.path)) }
+/// Makes the directory and those above it that are missing, where the quotas have room for them.
+pub fn mkdirs(
+    alloc: Global,
+    place: &Place,
+    quotas: &[(InodeId, QuotaRow)],
+    next: InodeId,
+    user: &User,
+) -> Result<Outcome, NoMemory>
+    requires { CanMake place.now quotas.now next.0 }
+    ensures { IfOk result (AnswersMkdirs place.now quotas.now next.0 user.now) }
 {
     let whole = is_whole(place);
     let last = deepest(place);
     match (last.kind, whole) {
-        (Kind::Dir, true) => Ok(Outcome::Answer(Reply::Truth(true), Writes::new(alloc))),
-        (Kind::Dir, false) => {
-            let missing = &place.path.names()[place.found.len() as usize - 1..];
-            let writes = new_dirs(alloc, last.id, next, user, missing)?;
-            Ok(Outcome::Answer(Reply::Truth(true), writes))
-        }
+        (Kind::Dir, true) => told(alloc, Reply::Truth(true)),
+        (Kind::Dir, false) => make_missing(alloc, last, place, quotas, next, user),
         (Kind::File, true) => refused(alloc, Exception::FileAlreadyExists),
         (Kind::File, false) => refused(alloc, Exception::ParentNotDirectory),
     }
 }
 
-fn refused(alloc: Global, exception: Exception) -> Result<Outcome, NoMemory>
-    ensures { IfOk result (λ outcome. IsRefused exception outcome) }
+// Makes the directories of the missing names below the last row found.
+fn make_missing(
+    alloc: Global,
+    last: &Inode,
+    place: &Place,
+    quotas: &[(InodeId, QuotaRow)],
+    next: InodeId,
+    user: &User,
+) -> Result<Outcome, NoMemory>
+    requires some { 1 ≤ length place.now.found.items }
+    requires within { length place.now.found.items ≤ length place.now.path }
+    requires below { last.now.id.0 < next.0 }
+    requires ids { next.0 + length place.now.path < 2 ^ 64 }
+    requires raise { CanRaise (length place.now.path) quotas.now }
+    ensures { IfOk result (MakesMissing last.now place.now quotas.now next.0 user.now) }
 {
-    Ok(Outcome::Answer(Reply::Refused(exception), Writes::new(alloc)))
+    let missing = &place.path.names()[place.found.len() as usize - 1..];
+    let count = missing.len() as u64;
+    if let Some(exception) = first_full(alloc, place, quotas, count)? {
+        return refused(alloc, exception);
+    }
+    let mut writes = new_dirs(alloc, last.id, next, user, missing)?;
+    raise(&mut writes, place.found.as_slice(), quotas, count)?;
+    Ok(Outcome::Answer(Reply::Truth(true), writes))
+}
+
+fn refused(alloc: Global, exception: Exception) -> Result<Outcome, NoMemory>
+    ensures { IfOk result (IsRefused exception) }
+{
+    told(alloc, Reply::Refused(exception))
+}
+
+fn told(alloc: Global, reply: Reply) -> Result<Outcome, NoMemory>
+    ensures { IfOk result (IsTold reply) }
+{
+    Ok(Outcome::Answer(reply, Writes::new(alloc)))
 }
 
 // One new directory for each name, each below the one before.

@@ -1,7 +1,7 @@
 //! `stat`.
 
 ghost use Rattle.std.specs.Prelude.{◌≡◌, ◌≤◌, length, IfOk};
-ghost use Rattle.inode_ops.specs.Outcomes.{status_of, AnswersStat, WritesNone};
+ghost use Rattle.inode_ops.specs.Steps.{status_of, AnswersStat};
 
 use crate::place::{deepest, is_whole};
 use db_state::{Outcome, Place, Writes};
@@ -13,8 +13,7 @@ use std::alloc::Global;
 /// Tells the status of the path, or that it is missing.
 pub fn stat(alloc: Global, place: &Place) -> Result<Outcome, NoMemory>
     requires { 1 ≤ length place.now.found.items }
-    ensures answer { IfOk result (AnswersStat place.now) }
-    ensures none { IfOk result WritesNone }
+    ensures { IfOk result (AnswersStat place.now) }
 {
     let reply = if is_whole(place) {
         Reply::Status(status_of(deepest(place))?)

@@ -21,15 +21,15 @@ use Rattle.script_text.specs.Grammar.{paths_of, IsSpelled, IsNameable, NamesPath
 use Rattle.script_text.proofs.OneScript.{values_of-items_of}
 
 -- of three tests that all pass, the second and the third
-second_of : (a b c : Bool) → (a && b && c) ≡ true → b ≡ true
+pub second_of : (a b c : Bool) → (a && b && c) ≡ true → b ≡ true
 second_of a b c h = second_so a b (first_so (a && b) c h)
 
 -- and the third
-third_of : (a b c : Bool) → (a && b && c) ≡ true → c ≡ true
+pub third_of : (a b c : Bool) → (a && b && c) ≡ true → c ≡ true
 third_of a b c h = second_so (a && b) c h
 
 -- the value of a valid call has no fault
-call_good : (at n : ℕ) (call : Call) → is_valid call ≡ true → NamesPaths call → call_fault at (n, call_data call) ≡ None
+pub call_good : (at n : ℕ) (call : Call) → is_valid call ≡ true → NamesPaths call → call_fault at (n, call_data call) ≡ None
 call_good at n (call.Mkdirs path) valid named = rw named.0.0 refl
 call_good at n (call.Create path overwrite) valid named = rw named.0.0 refl
 call_good at n (call.Append path) valid named = rw named.0.0 refl

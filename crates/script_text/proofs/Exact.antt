@@ -31,27 +31,27 @@ use Rattle.script_text.specs.Grammar.{paths_of, IsSpelled, IsNameable, NamesPath
 -- ---- what tests tell
 
 -- the rule holds
-unless-none : (holds : Bool) (told : ScriptFault) → unless holds told ≡ None → holds ≡ true
+pub unless-none : (holds : Bool) (told : ScriptFault) → unless holds told ≡ None → holds ≡ true
 unless-none true told h = refl
 unless-none false told h = cc
 
 -- neither is there
-option_or-none : {T : Type 0} (o p : Option T) → option_or o p ≡ None → (o ≡ None) × (p ≡ None)
+pub option_or-none : {T : Type 0} (o p : Option T) → option_or o p ≡ None → (o ≡ None) × (p ≡ None)
 option_or-none None p h = (refl, h)
 option_or-none (Some x) p h = cc
 
 -- there is nothing to tell
-option_map-none : {T U : Type 0} (f : T → U) (o : Option T) → option_map f o ≡ None → o ≡ None
+pub option_map-none : {T U : Type 0} (f : T → U) (o : Option T) → option_map f o ≡ None → o ≡ None
 option_map-none f None h = refl
 option_map-none f (Some x) h = cc
 
 -- a value is there, and passes the test
-if_there : {T : Type 0} (test : T → Bool) (o : Option T) → option_map_or test o false ≡ true → (x : T) × (o ≡ Some x) × (test x ≡ true)
+pub if_there : {T : Type 0} (test : T → Bool) (o : Option T) → option_map_or test o false ≡ true → (x : T) × (o ≡ Some x) × (test x ≡ true)
 if_there test None h = cc
 if_there test (Some x) h = (x, refl, h)
 
 -- the value is a text
-is_text : (value : Data) → is_some (as_str value) ≡ true → (text : List ℕ) × (value ≡ string text)
+pub is_text : (value : Data) → is_some (as_str value) ≡ true → (text : List ℕ) × (value ≡ string text)
 is_text null h = cc
 is_text (boolean b) h = cc
 is_text (number n) h = cc
@@ -119,17 +119,17 @@ path_and_two a b (item value (item v (item w (item more rest)))) h = absurd (fal
 -- ---- paths
 
 -- a test that failed, and what comes after it
-otherwise : {T : Type 0} (test : Bool) (x : T) (rest : Option T) → (if test then Some x else rest) ≡ None → (test ≡ false) × (rest ≡ None)
+pub otherwise : {T : Type 0} (test : Bool) (x : T) (rest : Option T) → (if test then Some x else rest) ≡ None → (test ≡ false) × (rest ≡ None)
 otherwise true x rest h = cc
 otherwise false x rest h = (refl, h)
 
 -- what is not false is true
-holds : (test : Bool) → not test ≡ false → test ≡ true
+pub holds : (test : Bool) → not test ≡ false → test ≡ true
 holds true h = refl
 holds false h = cc
 
 -- a text that is not refused
-path_exact : (text : List ℕ) → path_fault text ≡ None → (text_of (names_in text) ≡ text) × IsNameable (names_in text) × (is_short (names_in text) ≡ true)
+pub path_exact : (text : List ℕ) → path_fault text ≡ None → (text_of (names_in text) ≡ text) × IsNameable (names_in text) × (is_short (names_in text) ≡ true)
 path_exact text h =
     let a = otherwise (nat_lt 8000 (length text)) _ _ h in
     let b = otherwise (not (is_absolute text)) _ _ a.1 in
@@ -336,7 +336,7 @@ calls_exact at n (value ∷ values) h =
 -- ---- clients
 
 -- the value is the array that it is read as
-is_array : (value : Data) (items : Items) → as_array value ≡ Some items → value ≡ array items
+pub is_array : (value : Data) (items : Items) → as_array value ≡ Some items → value ≡ array items
 is_array null items h = cc
 is_array (boolean b) items h = cc
 is_array (number n) items h = cc
@@ -345,7 +345,7 @@ is_array (array all) items h = cc
 is_array (object ms) items h = cc
 
 -- the value is the text that it is read as
-is_string : (value : Data) (text : List ℕ) → as_str value ≡ Some text → value ≡ string text
+pub is_string : (value : Data) (text : List ℕ) → as_str value ≡ Some text → value ≡ string text
 is_string null text h = cc
 is_string (boolean b) text h = cc
 is_string (number n) text h = cc
@@ -354,7 +354,7 @@ is_string (array items) text h = cc
 is_string (object ms) text h = cc
 
 -- an array is made of its values
-items_of-values_of : (items : Items) → items_of (values_of items) ≡ items
+pub items_of-values_of : (items : Items) → items_of (values_of items) ≡ items
 items_of-values_of no_items = refl
 items_of-values_of (item value rest) = ap (λ r. item value r) (items_of-values_of rest)
 
@@ -408,7 +408,7 @@ clients_exact at (value ∷ values) h =
 -- ---- stops
 
 -- the value is the number that it is read as
-whole_is : (value : Data) (n : ℕ) → as_whole value ≡ Some n → value ≡ whole n
+pub whole_is : (value : Data) (n : ℕ) → as_whole value ≡ Some n → value ≡ whole n
 whole_is null n h = cc
 whole_is (boolean b) n h = cc
 whole_is (number (unsigned m)) n h = cc

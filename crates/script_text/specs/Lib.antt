@@ -6,3 +6,4 @@ pub mod Grammar
 pub mod Rows
 pub mod Built
 pub mod Script
+pub mod SmallForm

@@ -6,7 +6,8 @@ ghost use Rattle.hops_base.specs.declared.path_text.PathFault.TheVariants.{Relat
 ghost use Rattle.script_text.specs.Form.{script_data, script_text};
 ghost use Rattle.script_text.specs.Faults.{fault, bad_path, value_of, script_fault};
 ghost use Rattle.script_text.specs.Grammar.{CanName, IsScriptText};
-ghost use Rattle.script_text.specs.Rows.{first_script, first_bytes, small_generated, small_text, with_members, with_clients, with_second_call};
+ghost use Rattle.script_text.specs.SmallForm.{IsSmallForm};
+ghost use Rattle.script_text.specs.Rows.{plain_script, first_script, first_bytes, small_generated, small_text, with_members, with_clients, with_second_call};
 
 /// What is written for a small script.
 pub fn generated_script_is_written()
@@ -16,6 +17,17 @@ pub fn generated_script_is_written()
 /// The first script is read.
 pub fn first_script_is_read()
     ensures { IsScriptText first_bytes first_script }
+{}
+
+/// The first script is of the small form.
+pub fn first_script_is_small()
+    ensures { IsSmallForm first_bytes first_script }
+{}
+
+/// A script of the small form says nothing but its clients: at one namenode, with the defaults for the rest.
+pub fn small_form_says_little()
+    ensures { (bytes : List ℕ) (script : Script) → IsSmallForm bytes script
+        → script ≡ plain_script script.clients }
 {}
 
 /// A text is of one script.

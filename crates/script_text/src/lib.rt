@@ -14,7 +14,9 @@ mod build;
 mod call_form;
 mod fault;
 pub mod laws;
+mod members;
 mod script;
+mod small_form;
 #[cfg(test)]
 mod tests;
 mod write;
@@ -23,4 +25,5 @@ pub use build::{Fields, Row};
 pub use call_form::call_value;
 pub use fault::{ScriptError, ScriptFault};
 pub use script::{CallList, ClientCalls, ClientList, Script};
+pub use small_form::{SmallFormFault, read_small_form};
 pub use write::{script_value, write_script};

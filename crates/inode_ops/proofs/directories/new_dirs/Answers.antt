@@ -1,5 +1,5 @@
 use Rattle.std.proofs.Common.{refl, ap, ◌∙◌, arith}
-use Rattle.inode_ops.proofs.MadeLemmas.{fresh_key, making_none, making_next, making_all}
+use Rattle.inode_ops.proofs.MadeLemmas.{fresh_key, making_none, making_next}
 use Rattle.inode_ops.proofs.directories.new_dirs.Goals as goal
 
 pub loop-name-init : goal.loop-name-init

@@ -1,4 +1,3 @@
-use Rattle.hops_base.specs.declared.ids.InodeId.{InodeId}
 use Rattle.inode_ops.proofs.MadeLemmas.{IsMaking}
 use Rattle.inode_ops.proofs.directories.new_dirs.Given as goal
 

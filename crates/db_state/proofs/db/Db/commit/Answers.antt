@@ -1,9 +1,16 @@
-use Rattle.db_state.specs.State.{IsKept}
-use Rattle.db_state.specs.Written.{written, next_after}
-use Rattle.db_state.proofs.IdLemmas.{kept_written}
+use Rattle.std.proofs.Common.{◌≡◌, ◌∙◌, ◌++◌, ap, sym, subst}
+use Rattle.commit_log.specs.Shelf.{Shelf}
+use Rattle.db_state.specs.State.{State}
+use Rattle.db_state.specs.Consistent.{IsConsistent}
+use Rattle.db_state.specs.Places.{rows_of}
+use Rattle.db_state.specs.Written.{written, next_after, state_of, committed}
 use Rattle.db_state.proofs.db.Db.commit.Goals as goal
 
 pub invariant_of-self-2 : goal.invariant_of-self-2
 invariant_of-self-2 c =
-    let kept : IsKept (written c.self.inside.inodes.rows c.args.writes.items) (next_after c.self.inside.next c.args.writes.items) = kept_written c.args.writes.items c.self.inside.inodes.rows c.self.inside.next c.self.invariant.0 c.requires in
-    (rw (c.write_rows.ensures, c.reserve_rows.ensures.rows, c.into_vec.ensures, c.next_id-self-inside.ensures, c.as_slice-2.ensures.items) kept, c.self.invariant.1)
+    let old : State = state_of (rows_of c.self.inside.tables) c.self.inside.settings.users c.self.inside.book.notes c.self.inside.next in
+    let accord : IsConsistent (committed old c.args.writes.items c.args.notes.items) = subst (λ (s : State). IsConsistent (committed s c.args.writes.items c.args.notes.items)) (sym c.self.view_is) c.requires.accord in
+    let tables : rows_of c.write_rows.new.tables ≡ written (rows_of c.self.inside.tables) c.args.writes.items = c.write_rows.ensures ∙ (λ i. written (c.reserve_rows.ensures.rows i) (c.into_vec.ensures i)) in
+    let notes : c.write_notes.new.book.notes ≡ c.self.inside.book.notes ++ c.args.notes.items = ap (λ (b : Shelf). b.notes) c.write_notes.ensures ∙ ap (λ (b : Shelf). b.notes ++ c.args.notes.items) c.in_ok-reserve.ensures.ok in
+    let next : c.next_id-self-inside.result ≡ next_after c.self.inside.next c.args.writes.items = c.next_id-self-inside.ensures ∙ ap (next_after c.self.inside.next) c.as_slice-2.ensures.items in
+    (subst IsConsistent (sym (λ i. state_of (tables i) c.self.inside.settings.users (notes i) (next i))) accord, c.self.invariant.1)

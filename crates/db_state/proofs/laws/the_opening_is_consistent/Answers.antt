@@ -1,0 +1,5 @@
+use Rattle.db_state.specs.ConsistentLaws.{opening_consistent}
+use Rattle.db_state.proofs.laws.the_opening_is_consistent.Goals as goal
+
+pub returns : goal.returns
+returns c = opening_consistent

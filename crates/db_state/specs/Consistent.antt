@@ -1,0 +1,26 @@
+-- What always holds between the tables and the book. This project's own.
+use Rattle.std.specs.Prelude.{◌≡◌, [], Some, None}
+use Rattle.std.specs.FinMap as map
+use Rattle.hops_base.specs.declared.key.Key.{Key}
+use Rattle.name_space.specs.Namespace.{IsNamespace}
+use Rattle.inode_table.specs.declared.inode.Inode.{Inode}
+use Rattle.commit_log.specs.Legal.{Legal, space}
+use Rattle.db_state.specs.State.{Inodes, State}
+use Rattle.db_state.specs.Spelled.{IsTree, IsNumbered}
+use Rattle.db_state.specs.Stands.{Stands}
+use Rattle.db_state.specs.Counts.{Counts}
+
+-- no row bears the flag of an operation
+abbrev pub IsUnflagged : Inodes → Type 0
+IsUnflagged inodes = (at : Key) (row : Inode) → map.get inodes at ≡ Some row → row.flag ≡ None
+
+-- the rows spell a tree, with the ids that the history gives its paths; the history is legal, and leads to a namespace;
+-- and the rows stand for that, with quota rows that count it; no operation runs yet, so no row bears a flag
+pub record IsConsistent (state : State) : Type 0 where
+  pub tree : IsTree state.inodes state.next
+  pub numbered : IsNumbered state.inodes state.next state.users state.notes
+  pub legal : Legal state.users state.notes
+  pub names : IsNamespace (space state.users state.notes)
+  pub stands : Stands state.inodes state.quotas [] (space state.users state.notes)
+  pub counts : Counts state.inodes state.quotas (space state.users state.notes)
+  pub flags : IsUnflagged state.inodes

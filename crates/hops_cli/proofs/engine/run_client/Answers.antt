@@ -1,0 +1,17 @@
+use Rattle.std.proofs.Common.{◌≡◌, ◌≤◌, ◌<◌, ◌∷◌, [], List, length, get_or, ap, sym, subst, ◌∙◌, arith}
+use Rattle.name_space.specs.declared.call.Call.{Call}
+use Rattle.hops_cli.specs.Turning.{IsReady}
+use Rattle.hops_cli.proofs.LoopLemmas.{ready, turned, few_calls}
+use Rattle.hops_cli.proofs.engine.run_client.Goals as goal
+
+pub run_call-requires-clause-ready : goal.run_call-requires-clause-ready
+run_call-requires-clause-ready c =
+    let within : c.loop-i.i < length c.args.client.now.calls = subst (λ (cs : List Call). c.loop-i.i < length cs) c.calls-call-items.ensures c.loop-i-test.true in
+    let most : length c.args.client.now.calls ≤ 65536 = few_calls c.args.client.now c.requires.valid in
+    subst (IsReady c.loop-i.db) (sym c.user.ensures) (ready c.args.client.now.user c.args.client.now.calls c.loop-i.i c.loop-i.db c.loop-i.answers.items c.requires.small (omega arith) c.loop-i.invariant)
+
+pub loop-i-preserved : goal.loop-i-preserved
+loop-i-preserved c =
+    let within : c.loop-i.i < length c.args.client.now.calls = subst (λ (cs : List Call). c.loop-i.i < length cs) c.calls-call-items.ensures c.loop-i-test.true in
+    let is : get_or c.args.client.now.calls c.loop-i.i c.call-item.result ≡ c.call-item.result = sym (c.call-item.is ∙ ap (λ (cs : List Call). get_or cs c.loop-i.i c.call-item.result) c.calls-call-items.ensures) in
+    turned (c.args.client.now.user ∷ []) c.args.client.now.calls c.loop-i.i c.loop-i.db c.run_call.new.db c.loop-i.answers.items c.push.new.self.items c.call-item.result c.in_ok-end.end within is c.loop-i.invariant c.in_ok-end.ensures c.in_ok-push.ensures.items

@@ -1,0 +1,65 @@
+-- What a run's calls make of the tables and the book. This project's own.
+use Rattle.std.specs.Prelude.{◌≡◌, ℕ, ◌+◌, ◌*◌, ◌<◌, ◌≤◌, ◌^◌, Bool, false, ◌||◌, List, [], ◌∷◌, ◌++◌, map, length, take, slice_get, Option, Some, None, is_some}
+use Rattle.name_space.specs.declared.call.Call.{Call}
+use Rattle.name_space.specs.declared.entry.Entry.{Entry}
+use Rattle.name_space.specs.declared.entry.Entry.TheVariants.{Dir, File}
+use Rattle.name_space.specs.declared.reply.Reply.{Reply}
+use Rattle.name_space.specs.Script.{ClientCalls}
+use Rattle.name_space.specs.Namespace.{Namespace, Path, entry_at}
+use Rattle.commit_log.specs.declared.answer.AnswerLine.{AnswerLine}
+use Rattle.commit_log.specs.declared.answer.CallEnd.{CallEnd}
+use Rattle.commit_log.specs.declared.answer.CallEnd.TheVariants.{Done}
+use Rattle.commit_log.specs.Legal.{space}
+use Rattle.commit_log.specs.OneClient.{Turn, calls_made, opens_turn, does_turn, turns_book, turns_lines}
+use Rattle.db_state.specs.State.{State}
+
+-- the entry has a quota
+abbrev pub has_limit : Option Entry → Bool
+has_limit None = false
+has_limit (Some (Dir mode owner max_names max_bytes)) = is_some max_names || is_some max_bytes
+has_limit (Some (File len writer mode owner)) = false
+
+-- no directory has a quota: no call that sets one is run yet
+abbrev pub IsLimitless : Namespace → Type 0
+IsLimitless space = (path : Path) → has_limit (entry_at space path) ≡ false
+
+-- the users that these clients act for
+abbrev pub users_in : List ClientCalls → List (List ℕ)
+users_in clients = map (λ (c : ClientCalls). c.user) clients
+
+-- before any call of clients that act for these users
+pub record IsNew (users : List (List ℕ)) (state : State) (lines : List AnswerLine) : Type 0 where
+  pub book : state.notes ≡ []
+  pub none : lines ≡ []
+  pub acting : state.users ≡ users
+  pub next : state.next ≡ 2
+
+-- the next call of the one client, whose user this is, can be answered
+pub record IsReady (state : State) (user : List ℕ) : Type 0 where
+  pub acts : slice_get state.users 0 ≡ Some user
+  pub limitless : IsLimitless (space state.users state.notes)
+  pub room : state.next + 1000 < 2 ^ 64
+
+-- one commit opened and answered the call of this number
+pub record IsTurned (old new : State) (number : ℕ) (call : Call) (end : CallEnd) : Type 0 where
+  pub reads : ℕ
+  pub reply : Reply
+  pub notes : new.notes ≡ old.notes ++ opens_turn number ∷ does_turn number (record { call = call; reads = reads; reply = reply }) ∷ []
+  pub told : end ≡ Done (length old.notes + 1) reply
+  pub users : new.users ≡ old.users
+  pub few : new.next ≤ old.next + 1000
+
+-- so many of the calls have been answered, and nothing else was written
+pub record AreTurned (users : List (List ℕ)) (calls : List Call) (count : ℕ) (state : State) (lines : List AnswerLine) : Type 0 where
+  pub turns : List Turn
+  pub made : calls_made turns ≡ take count calls
+  pub notes : state.notes ≡ turns_book 0 turns
+  pub told : lines ≡ turns_lines 0 turns
+  pub acting : state.users ≡ users
+  pub few : state.next ≤ 2 + 1000 * count
+
+-- all calls of all clients have been answered: there is at most one
+abbrev pub AreAllTurned : List ClientCalls → State → List AnswerLine → Type 0
+AreAllTurned [] state lines = (state.notes ≡ []) × (lines ≡ []) × (state.users ≡ [])
+AreAllTurned (one ∷ []) state lines = AreTurned (one.user ∷ []) one.calls (length one.calls) state lines
+AreAllTurned (one ∷ other ∷ more) state lines = ⊥
