@@ -13,6 +13,7 @@ pub mod Legal
 pub mod Licensed
 pub mod LockLaws
 pub mod Locks
+pub mod Losses
 pub mod NumberLaws
 pub mod OneClient
 pub mod OneClientLaws
@@ -20,6 +21,10 @@ pub mod OrderLaws
 pub mod Orderly
 pub mod PartLaws
 pub mod Parts
+pub mod Places
+pub mod ReadLaws
+pub mod Reads
+pub mod Runs
 pub mod Samples
 pub mod Shelf
 pub mod Told

@@ -1,15 +1,20 @@
 //! The book.
 
-ghost use Rattle.std.specs.Prelude.{◌≡◌, ◌+◌, ◌<◌, [], ◌∷◌, ◌++◌, length, max, OnOk, OnErr, option_copied, slice_get};
+ghost use Rattle.std.specs.Prelude.{◌≡◌, ◌+◌, ◌<◌, [], ◌∷◌, ◌++◌, length, max, take, IfOk, OnOk, OnErr, option_copied, slice_get};
+ghost use Rattle.commit_log.specs.Reads.{journal, FlagsExactly, HoldsExactly};
 
+use crate::flagged::flagged_ops;
+use crate::held::held_locks;
+use crate::journal::history_of;
 use crate::note::Note;
-use hops_base::{ItemList, NoMemory};
+use hops_base::{ItemList, Key, Mode, NoMemory, OpId, SessionId};
 use std::alloc::Global;
 use std::marker::Model;
 
 /// All notes in the order in which they were written, with room for more.
 #[derive(Debug, Drop)]
 pub struct Book {
+    alloc: Global,
     notes: ItemList<Note>,
 }
 
@@ -27,6 +32,7 @@ impl Book {
         ensures { result ≡ record { notes = []; room = 0 } }
     {
         Book {
+            alloc,
             notes: ItemList::new(alloc),
         }
     }
@@ -66,5 +72,43 @@ impl Book {
         ensures { result.now ≡ self.now.notes }
     {
         self.notes.as_slice()
+    }
+
+    /// The numbers of the Did and Cut notes, rising: the notes that tell the history. NoMemory comes only
+    /// where memory ran out. It goes over the book once.
+    pub fn journal(&self) -> Result<Vec<u64>, NoMemory>
+        ensures { IfOk result (λ numbers. numbers.items ≡ journal self.now.notes) }
+    {
+        history_of(self.alloc, self.notes.as_slice())
+    }
+
+    /// The locks that are held just before note `i`, or at the book's end where `i` is at least its length:
+    /// each with its session, its key and its mode, by key and then by session. A session that has taken a
+    /// key twice has it twice, in the order in which it took it. NoMemory comes only where memory ran out.
+    /// It goes over the notes once for what gives locks back and once for the locks, and sorts these.
+    pub fn held_at(&self, i: u64) -> Result<Vec<(SessionId, Key, Mode)>, NoMemory>
+        ensures { IfOk result (λ locks. HoldsExactly (take i self.now.notes) locks.items) }
+    {
+        held_locks(self.alloc, self.before(i))
+    }
+
+    /// The operations whose flags are set just before note `i`, or at the book's end where `i` is at least
+    /// its length, rising and each once. NoMemory comes only where memory ran out. It goes over the notes
+    /// once for what sets and ends flags and once for the flags.
+    pub fn flags_at(&self, i: u64) -> Result<Vec<OpId>, NoMemory>
+        ensures { IfOk result (λ ops. FlagsExactly (take i self.now.notes) ops.items) }
+    {
+        flagged_ops(self.alloc, self.before(i))
+    }
+
+    // The notes before note `i`, or all where there are no more.
+    fn before(&self, i: u64) -> &[Note]
+        ensures { result.now ≡ take i self.now.notes }
+    {
+        let notes = self.notes.as_slice();
+        match notes.get(..i as usize) {
+            Some(front) => front,
+            None => notes,
+        }
     }
 }

@@ -1,7 +1,9 @@
 //! Laws of what a book says is held, set, there and numbered, and of the book of a run of one client.
 
-ghost use Rattle.std.specs.Prelude.{◌≡◌, ◌≢◌, ℕ, ◌+◌, ◌*◌, Bool, true, false, not, ◌&&◌, ◌||◌, ◌==◌, if◌then◌else◌, List, [], ◌∷◌, ◌++◌, length, Option, Some, None, is_some};
-ghost use Rattle.std.specs.List.{filter, list_any, Contains};
+ghost use Rattle.std.specs.Prelude.{◌≡◌, ◌≢◌, ℕ, ◌+◌, ◌*◌, Bool, true, false, not, ◌&&◌, ◌||◌, ◌==◌, if◌then◌else◌, List, [], ◌∷◌, ◌++◌, length, map, slice_get, Option, Some, None, is_some};
+ghost use Rattle.std.specs.List.{filter, filter_map, list_any, Contains};
+ghost use Rattle.std.specs.List.Sorted.{IsStrictlySortedBy};
+ghost use Rattle.std.specs.Ordering.{nat_cmp};
 ghost use Rattle.hops_base.specs.declared.ids.SessionId.{SessionId};
 ghost use Rattle.hops_base.specs.declared.ids.OpId.{OpId};
 ghost use Rattle.hops_base.specs.declared.ids.ClientNo.{ClientNo};
@@ -24,6 +26,7 @@ ghost use Rattle.commit_log.specs.Legal.{applied, Legal, space, space_after};
 ghost use Rattle.commit_log.specs.Locks.{held, is_of, is_at, Sound};
 ghost use Rattle.commit_log.specs.LockLaws.{IsTaken};
 ghost use Rattle.commit_log.specs.Flags.{flags, ends_flag, is_live};
+ghost use Rattle.commit_log.specs.Reads.{tells_history, journal, Lock, lock_of, lock_cmp, op_of, HoldsExactly, FlagsExactly};
 ghost use Rattle.commit_log.specs.Licensed.{Licensed};
 ghost use Rattle.commit_log.specs.Answers.{Answers};
 ghost use Rattle.commit_log.specs.Told.{Told, cut_in, CutsExplained};
@@ -117,4 +120,26 @@ pub fn a_single_run_is_in_order()
 pub fn a_single_run_is_told()
     ensures told { (script : Script) (turns : List Turn) (tree : Namespace) → IsSingleRun script turns → Legal (users_of script) (turns_book 0 turns) → tree ≡ space (users_of script) (turns_book 0 turns) → Told script (turns_book 0 turns) (turns_lines 0 turns) tree }
     ensures kept { (script : Script) (turns : List Turn) → IsSingleRun script turns → KeptWithoutLocks script (turns_book 0 turns) (turns_lines 0 turns) }
+{}
+
+/// The journal has the numbers of the Did and Cut notes, rising. These notes alone tell the history: without the
+/// others it is as legal, and its last namespace is the same.
+pub fn the_journal_tells_the_history()
+    ensures notes { (notes : List Note) → filter_map (slice_get notes) (journal notes) ≡ filter tells_history notes }
+    ensures rises { (notes : List Note) → IsStrictlySortedBy nat_cmp (journal notes) }
+    ensures legal { (users : List (List ℕ)) (notes : List Note) → Legal users notes → Legal users (filter tells_history notes) }
+    ensures enough { (users : List (List ℕ)) (notes : List Note) → Legal users (filter tells_history notes) → Legal users notes }
+    ensures space { (users : List (List ℕ)) (notes : List Note) → space users (filter tells_history notes) ≡ space users notes }
+{}
+
+/// The locks that a book lists are those that are held, in a sound book each once.
+pub fn held_locks_are_listed()
+    ensures held { (notes : List Note) (locks : List Lock) (lock : Taking) → HoldsExactly notes locks → Contains (held notes) lock → Contains locks (lock_of lock) }
+    ensures listed { (notes : List Note) (locks : List Lock) (lock : Taking) → HoldsExactly notes locks → Contains locks (lock_of lock) → Contains (held notes) lock }
+    ensures once { (notes : List Note) (locks : List Lock) → Sound notes → HoldsExactly notes locks → IsStrictlySortedBy lock_cmp locks }
+{}
+
+/// Where operations are numbered in turn, those that a book lists are those of its flags, in their order.
+pub fn numbered_flags_are_listed()
+    ensures { (script : Script) (notes : List Note) (ops : List OpId) → Each (NumberedAt script) notes → FlagsExactly notes ops → ops ≡ map op_of (flags notes) }
 {}

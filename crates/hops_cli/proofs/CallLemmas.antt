@@ -30,7 +30,7 @@ use Rattle.db_state.specs.declared.outcome.Outcome.{Outcome}
 use Rattle.db_state.specs.declared.outcome.Outcome.TheVariants.{Answer}
 use Rattle.hops_base.specs.declared.key.Key.{Key}
 use Rattle.hops_base.specs.Roomy.{Roomy}
-use Rattle.script_text.specs.SmallForm.{is_small_call}
+use Rattle.hops_cli.specs.Built.{is_built}
 use Rattle.inode_ops.specs.Table.{IsAnswer, IsCallsTable}
 use Rattle.inode_ops.specs.Outcomes.{CanRaise, CanMake, path_of, IsViewOf}
 use Rattle.hops_cli.specs.Reading.{IsFound, IsViewAt}
@@ -42,7 +42,7 @@ pub names_good : (state : State) (asked : Call) (view : View) (reads : ℕ) → 
 names_good state asked view reads read = ap (list_all (list_all is_name)) read.one ∙ ap (λ (b : Bool). b && true) read.read.good
 
 -- there are at most a thousand
-short_call : (asked : Call) (path : Path) → is_small_call asked ≡ true → is_valid asked ≡ true → paths_of asked ≡ path ∷ [] → is_short path ≡ true
+short_call : (asked : Call) (path : Path) → is_built asked ≡ true → is_valid asked ≡ true → paths_of asked ≡ path ∷ [] → is_short path ≡ true
 short_call (call.Mkdirs own) path small valid one = let same : own ≡ path = cc in subst (λ (p : Path). is_short p ≡ true) same valid
 short_call (call.Create own overwrite) path small valid one = absurd (let bad = small in cc)
 short_call (call.Append own) path small valid one = absurd (let bad = small in cc)
@@ -59,14 +59,14 @@ short_call (call.Usage own) path small valid one = absurd (let bad = small in cc
 few_names : (path : Path) → is_short path ≡ true → length path ≤ 1000
 few_names path short = let few : nat_le (length path) 1000 ≡ true = first_so _ _ short in grind (arith, nat_tests)
 
-pub at_most : (state : State) (asked : Call) (view : View) (reads : ℕ) → is_small_call asked ≡ true → is_valid asked ≡ true → IsViewAt state asked view reads → sum_by length (paths_of asked) ≤ 1000
+pub at_most : (state : State) (asked : Call) (view : View) (reads : ℕ) → is_built asked ≡ true → is_valid asked ≡ true → IsViewAt state asked view reads → sum_by length (paths_of asked) ≤ 1000
 at_most state asked view reads small valid read =
     let few : length read.path ≤ 1000 = few_names read.path (short_call asked read.path small valid read.one) in
     let sum : sum_by length (paths_of asked) ≡ length read.path + 0 = ap (sum_by length) read.one ∙ total-is length (read.path ∷ []) in
     omega arith
 
 -- the answer is the plain call's
-pub answer_is : (state : State) (user : List ℕ) (asked : Call) (view : View) (reads : ℕ) (outcome : Outcome) (reply : Reply) (writes : Roomy (Key × Option Row)) → IsConsistent state → IsReady state user → is_small_call asked ≡ true → IsViewAt state asked view reads
+pub answer_is : (state : State) (user : List ℕ) (asked : Call) (view : View) (reads : ℕ) (outcome : Outcome) (reply : Reply) (writes : Roomy (Key × Option Row)) → IsConsistent state → IsReady state user → is_built asked ≡ true → IsViewAt state asked view reads
     → IsCallsTable view (client 0) user asked outcome → outcome ≡ Answer reply writes → IsAnswer (tables_of state) (space state.users state.notes) (client 0) user asked view reply writes.items
 answer_is state user asked view reads outcome reply writes kept ready small read table is =
     subst (IsCallsTable view (client 0) user asked) is table (tables_of state) state.next (space state.users state.notes) None (record {
@@ -78,7 +78,7 @@ answer_is state user asked view reads outcome reply writes kept ready small read
     })
 
 -- the commit takes no more than a thousand ids
-pub few_ids : (state : State) (user : List ℕ) (asked : Call) (view : View) (reads : ℕ) (reply : Reply) (writes : List (Key × Option Row)) → is_small_call asked ≡ true → is_valid asked ≡ true → IsViewAt state asked view reads
+pub few_ids : (state : State) (user : List ℕ) (asked : Call) (view : View) (reads : ℕ) (reply : Reply) (writes : List (Key × Option Row)) → is_built asked ≡ true → is_valid asked ≡ true → IsViewAt state asked view reads
     → IsAnswer (tables_of state) (space state.users state.notes) (client 0) user asked view reply writes → next_after state.next writes ≤ state.next + 1000
 few_ids state user asked view reads reply writes small valid read answer =
     let taken : next_after state.next writes ≤ state.next + sum_by length (paths_of asked) = subst (λ (n : ℕ). next_after n writes ≤ n + sum_by length (paths_of asked)) read.next answer.few in
@@ -105,7 +105,7 @@ turned_by old new number asked reads reply told notes writes count is are counte
 
 -- ---- the view is one that the call can be answered from
 
-path_named : (asked : Call) (path : Path) → is_small_call asked ≡ true → paths_of asked ≡ path ∷ [] → path_of asked ≡ Some path
+path_named : (asked : Call) (path : Path) → is_built asked ≡ true → paths_of asked ≡ path ∷ [] → path_of asked ≡ Some path
 path_named (call.Mkdirs own) path small one = cc
 path_named (call.Create own overwrite) path small one = absurd (let bad = small in cc)
 path_named (call.Append own) path small one = absurd (let bad = small in cc)
@@ -125,7 +125,7 @@ found_below inodes next tree [] all i = tt
 found_below inodes next tree (found ∷ rows) all zero = let range = tree.range found.0 found.1 all.0 in range.1
 found_below inodes next tree (found ∷ rows) all (suc i) = found_below inodes next tree rows all.1 i
 
-can_make : (state : State) (asked : Call) (view : View) (reads : ℕ) → IsConsistent state → state.next + 1000 < 2 ^ 64 → is_small_call asked ≡ true → is_valid asked ≡ true → (read : IsViewAt state asked view reads) → CanMake read.place view.quotas.items view.next.0
+can_make : (state : State) (asked : Call) (view : View) (reads : ℕ) → IsConsistent state → state.next + 1000 < 2 ^ 64 → is_built asked ≡ true → is_valid asked ≡ true → (read : IsViewAt state asked view reads) → CanMake read.place view.quotas.items view.next.0
 can_make state asked view reads kept room small valid read =
     let few : length read.path ≤ 1000 = few_names read.path (short_call asked read.path small valid read.one) in
     let long : length read.place.path ≡ length read.path = ap length read.read.of in
@@ -137,7 +137,7 @@ can_make state asked view reads kept room small valid read =
       raise = subst (CanRaise (length read.place.path)) (sym read.none) tt;
     }
 
-pub viewed : (state : State) (user : List ℕ) (asked : Call) (view : View) (reads : ℕ) → IsConsistent state → IsReady state user → is_small_call asked ≡ true → is_valid asked ≡ true → IsViewAt state asked view reads → IsViewOf view asked
+pub viewed : (state : State) (user : List ℕ) (asked : Call) (view : View) (reads : ℕ) → IsConsistent state → IsReady state user → is_built asked ≡ true → is_valid asked ≡ true → IsViewAt state asked view reads → IsViewOf view asked
 viewed state user asked view reads kept ready small valid read = record {
   only = ap length read.only;
   place = subst (λ (places : List Place). IfSome (slice_get places 0) (λ (place : Place). (path_of asked ≡ Some place.path) × CanMake place view.quotas.items view.next.0)) (sym read.only)

@@ -26,7 +26,7 @@ use Rattle.db_state.specs.declared.view.Place.{Place}
 use Rattle.db_state.specs.declared.view.View.{View}
 use Rattle.db_state.specs.Plan.{plan}
 use Rattle.db_state.specs.Current.{places_of, is_locked, IsThere, IsCurrentPlace, is_unflagged, SeesQuotas, IsCurrent}
-use Rattle.script_text.specs.SmallForm.{is_small_call}
+use Rattle.hops_cli.specs.Built.{is_built}
 use Rattle.hops_cli.specs.Reading.{IsFound, IsPlaceOf, IsViewAt}
 use Rattle.hops_cli.specs.Turning.{has_limit, IsLimitless}
 
@@ -87,7 +87,7 @@ sees_none quotas locked seen none is = subst (SeesQuotas quotas locked) (sym is)
     either false o = refl
 
 -- the one path of a call that is run
-own_path : (asked : Call) (places : List Place) → is_small_call asked ≡ true → places_of asked places ≡ paths_of asked
+own_path : (asked : Call) (places : List Place) → is_built asked ≡ true → places_of asked places ≡ paths_of asked
 own_path (call.Mkdirs path) places e = refl
 own_path (call.Create path overwrite) places e = cc
 own_path (call.Append path) places e = cc
@@ -111,7 +111,7 @@ place_current inodes locked path place reads bare read = record {
 }
 
 -- the view that was read of the rows is current with them
-pub view_current : (state : State) (client : ClientNo) (asked : Call) (view : View) (reads : ℕ) → IsConsistent state → IsLimitless (space state.users state.notes) → is_small_call asked ≡ true → IsViewAt state asked view reads
+pub view_current : (state : State) (client : ClientNo) (asked : Call) (view : View) (reads : ℕ) → IsConsistent state → IsLimitless (space state.users state.notes) → is_built asked ≡ true → IsViewAt state asked view reads
     → IsCurrent state.inodes state.quotas None client asked view
 view_current state client asked view reads kept limitless runnable read =
     let locked : List (Key × Mode) = plan client asked view.places.items in

@@ -1,3 +1,4 @@
+pub mod BuiltLemmas
 pub mod CallLemmas
 pub mod CurrentLemmas
 pub mod LimitLemmas
@@ -6,3 +7,4 @@ pub mod ReadingLemmas
 pub mod RunLemmas
 pub mod Transfers
 pub mod TurnLemmas
+pub mod WordLemmas

@@ -16,7 +16,7 @@ use Rattle.commit_log.specs.Legal.{applied, space, space_from}
 use Rattle.commit_log.specs.OneClient.{Turn, calls_made, turns_book}
 use Rattle.commit_log.specs.Samples.{client}
 use Rattle.hops_base.specs.Path.{path_cmp}
-use Rattle.script_text.specs.SmallForm.{is_small_call}
+use Rattle.hops_cli.specs.Built.{is_built}
 use Rattle.hops_cli.specs.Turning.{has_limit, IsLimitless}
 
 with_dirs_limitless : (space : Namespace) (user : List ℕ) (paths : List Path) → IsLimitless space → IsLimitless (with_dirs space user paths)
@@ -35,7 +35,7 @@ stat_limitless space None bare = bare
 stat_limitless space (Some entry) bare = bare
 
 -- a call that is run sets none
-pub call_limitless : (space : Namespace) (by : ClientNo) (user : List ℕ) (asked : Call) → is_small_call asked ≡ true → IsLimitless space → IsLimitless (plain space by user asked).space
+pub call_limitless : (space : Namespace) (by : ClientNo) (user : List ℕ) (asked : Call) → is_built asked ≡ true → IsLimitless space → IsLimitless (plain space by user asked).space
 call_limitless space by user (call.Mkdirs path) e bare = unless_limitless _ space (granted (with_dirs space user (missing space path))) bare (with_dirs_limitless space user (missing space path) bare)
 call_limitless space by user (call.Create path overwrite) e bare = absurd (let bad = e in cc)
 call_limitless space by user (call.Append path) e bare = absurd (let bad = e in cc)
@@ -49,7 +49,7 @@ call_limitless space by user (call.Chmod path mode) e bare = absurd (let bad = e
 call_limitless space by user (call.SetQuota path names bytes) e bare = absurd (let bad = e in cc)
 call_limitless space by user (call.Usage path) e bare = absurd (let bad = e in cc)
 
-from_limitless : (users : List (List ℕ)) (old : Namespace) (n : ℕ) (turns : List Turn) → list_all is_small_call (calls_made turns) ≡ true → IsLimitless old → IsLimitless (space_from users old (turns_book n turns))
+from_limitless : (users : List (List ℕ)) (old : Namespace) (n : ℕ) (turns : List Turn) → list_all is_built (calls_made turns) ≡ true → IsLimitless old → IsLimitless (space_from users old (turns_book n turns))
 from_limitless users old n [] e bare = bare
 from_limitless users old n (turn ∷ turns) e bare =
     from_limitless users (applied users old (client 0) turn.call).space (n + 1) turns (second_so _ _ e) (call_limitless old (client 0) _ turn.call (first_so _ _ e) bare)
@@ -62,6 +62,6 @@ opening_limitless path = either (Rattle.hops_base.specs.Path.same_path path [])
     either false = refl
 
 -- nor do turns of such calls
-pub turns_limitless : (users : List (List ℕ)) (turns : List Turn) → list_all is_small_call (calls_made turns) ≡ true → IsLimitless (space users (turns_book 0 turns))
+pub turns_limitless : (users : List (List ℕ)) (turns : List Turn) → list_all is_built (calls_made turns) ≡ true → IsLimitless (space users (turns_book 0 turns))
 unfolding space
 turns_limitless users turns e = from_limitless users opening 0 turns e opening_limitless

@@ -15,15 +15,15 @@ use Rattle.commit_log.specs.Samples.{client}
 use Rattle.commit_log.specs.OneClient.{Turn, calls_made, opens_turn, does_turn, turns_book, turn_line, turns_lines}
 use Rattle.commit_log.specs.OneClientLaws.{turns_book-push, turns_lines-push, calls_made-push, length-turns_book}
 use Rattle.db_state.specs.State.{State}
-use Rattle.script_text.specs.SmallForm.{is_small_call}
+use Rattle.hops_cli.specs.Built.{is_built}
 use Rattle.hops_cli.specs.Turning.{IsLimitless, IsNew, IsReady, IsTurned, AreTurned}
 use Rattle.hops_cli.proofs.LimitLemmas.{turns_limitless}
 
 -- what all pass, the first of them pass
-all_take : (count : ℕ) (calls : List Call) → list_all is_small_call calls ≡ true → list_all is_small_call (take count calls) ≡ true
+all_take : (count : ℕ) (calls : List Call) → list_all is_built calls ≡ true → list_all is_built (take count calls) ≡ true
 all_take zero calls e = refl
 all_take (suc count) [] e = refl
-all_take (suc count) (one ∷ calls) e = both (is_small_call one) (list_all is_small_call (take count calls)) (first_so _ _ e) (all_take count calls (second_so _ _ e))
+all_take (suc count) (one ∷ calls) e = both (is_built one) (list_all is_built (take count calls)) (first_so _ _ e) (all_take count calls (second_so _ _ e))
   where
     both : (a b : Bool) → a ≡ true → b ≡ true → (a && b) ≡ true
     both true b is also = also
@@ -36,10 +36,10 @@ none_turned user calls state lines new =
     record { turns = []; made = refl; notes = new.book; told = new.none; acting = new.acting; few = omega arith }
 
 -- the next call can be answered
-pub ready : (user : List ℕ) (calls : List Call) (count : ℕ) (state : State) (lines : List AnswerLine) → list_all is_small_call calls ≡ true → count ≤ 65536 → AreTurned (user ∷ []) calls count state lines → IsReady state user
+pub ready : (user : List ℕ) (calls : List Call) (count : ℕ) (state : State) (lines : List AnswerLine) → list_all is_built calls ≡ true → count ≤ 65536 → AreTurned (user ∷ []) calls count state lines → IsReady state user
 ready user calls count state lines runnable few so_far =
     let bound : state.next ≤ 2 + 1000 * count = so_far.few in
-    let runs : list_all is_small_call (calls_made so_far.turns) ≡ true = ap (list_all is_small_call) so_far.made ∙ all_take count calls runnable in
+    let runs : list_all is_built (calls_made so_far.turns) ≡ true = ap (list_all is_built) so_far.made ∙ all_take count calls runnable in
     record {
       acts = ap (λ (users : List (List ℕ)). slice_get users 0) so_far.acting;
       limitless = subst (λ (notes : List Note). IsLimitless (space state.users notes)) (sym so_far.notes) (turns_limitless state.users so_far.turns runs);

@@ -13,7 +13,8 @@ use Rattle.commit_log.specs.Samples.{client}
 use Rattle.commit_log.specs.OneClient.{Turn, calls_made, replies_told, turns_book, turns_lines, MadeBy, IsSingleRun}
 use Rattle.commit_log.specs.OneClientLaws.{single_told, single_kept, replies-from_legal, space-turns_book, made-none, made-one}
 use Rattle.db_state.specs.State.{State}
-use Rattle.hops_cli.specs.Run.{IsPlainScript, reply_in, IsPlainRun, IsRun}
+use Rattle.hops_cli.specs.Built.{IsBuilt}
+use Rattle.hops_cli.specs.Run.{reply_in, IsPlainRun, IsRun}
 use Rattle.hops_cli.specs.Turning.{AreTurned, AreAllTurned}
 
 -- the lines of turns tell their replies
@@ -21,15 +22,15 @@ lines_tell : (n : ℕ) (turns : List Turn) → list_map (λ (line : AnswerLine).
 lines_tell n [] = refl
 lines_tell n (turn ∷ turns) = ap (λ (rs : List (Option Reply)). Some (as_read turn.reply) ∷ rs) (lines_tell (n + 1) turns)
 
-single : (script : Script) (turns : List Turn) → IsPlainScript script → MadeBy script.clients turns → IsSingleRun script turns
+single : (script : Script) (turns : List Turn) → IsBuilt script → MadeBy script.clients turns → IsSingleRun script turns
 single script turns small made = record {
-  runs = (let one : script.namenodes ≡ 1 = small.small.namenodes in omega arith);
+  runs = (let one : script.namenodes ≡ 1 = small.namenodes in omega arith);
   stays = small.stays;
   made = made;
 }
 
 -- what these turns leave is a run, once its replies are those of the plain calls
-turns_run : (script : Script) (turns : List Turn) (notes : List Note) (lines : List AnswerLine) (tree : Namespace) → IsPlainScript script → MadeBy script.clients turns
+turns_run : (script : Script) (turns : List Turn) (notes : List Note) (lines : List AnswerLine) (tree : Namespace) → IsBuilt script → MadeBy script.clients turns
     → notes ≡ turns_book 0 turns → lines ≡ turns_lines 0 turns → Legal (users_of script) notes → tree ≡ space (users_of script) notes
     → IsPlainRun script.clients (turns_lines 0 turns) (space (users_of script) (turns_book 0 turns)) → IsRun script notes lines tree
 turns_run script turns notes lines tree small made book told legal shown plain =
@@ -45,14 +46,14 @@ turns_run script turns notes lines tree small made book told legal shown plain =
     (subst (λ (ns : List Note). IsRun script ns (turns_lines 0 turns) (space (users_of script) (turns_book 0 turns))) (sym book) run))
 
 -- the run of no client
-run_none : (script : Script) (notes : List Note) (lines : List AnswerLine) (tree : Namespace) → IsPlainScript script → script.clients ≡ [] → notes ≡ [] → lines ≡ []
+run_none : (script : Script) (notes : List Note) (lines : List AnswerLine) (tree : Namespace) → IsBuilt script → script.clients ≡ [] → notes ≡ [] → lines ≡ []
     → Legal (users_of script) notes → tree ≡ space (users_of script) notes → IsRun script notes lines tree
 run_none script notes lines tree small none book told legal shown =
     turns_run script [] notes lines tree small (made-none script.clients [] none refl) book told legal shown
     (subst (λ (cs : List ClientCalls). IsPlainRun cs [] (space (list_map (λ (c : ClientCalls). c.user) cs) [])) (sym none) (refl, space-none []))
 
 -- the run of one client all of whose calls were answered
-run_one : (script : Script) (one : ClientCalls) (state : State) (lines : List AnswerLine) (tree : Namespace) → IsPlainScript script → script.clients ≡ one ∷ []
+run_one : (script : Script) (one : ClientCalls) (state : State) (lines : List AnswerLine) (tree : Namespace) → IsBuilt script → script.clients ≡ one ∷ []
     → AreTurned (one.user ∷ []) one.calls (length one.calls) state lines → Legal (users_of script) state.notes → tree ≡ space (users_of script) state.notes → IsRun script state.notes lines tree
 run_one script one state lines tree small is done legal shown =
     let turns : List Turn = done.turns in
@@ -67,7 +68,7 @@ run_one script one state lines tree small is done legal shown =
     (subst (λ (cs : List ClientCalls). IsPlainRun cs (turns_lines 0 turns) (space (list_map (λ (c : ClientCalls). c.user) cs) (turns_book 0 turns))) (sym is) (replies, last))
 
 -- the run of a small script all of whose calls were answered
-pub run_all : (script : Script) (clients : List ClientCalls) (state : State) (notes : List Note) (lines : List AnswerLine) (tree : Namespace) → IsPlainScript script → script.clients ≡ clients → AreAllTurned clients state lines
+pub run_all : (script : Script) (clients : List ClientCalls) (state : State) (notes : List Note) (lines : List AnswerLine) (tree : Namespace) → IsBuilt script → script.clients ≡ clients → AreAllTurned clients state lines
     → Legal state.users state.notes → notes ≡ state.notes → tree ≡ space state.users state.notes → IsRun script notes lines tree
 run_all script [] state notes lines tree small is done legal same shown =
     let users : state.users ≡ users_of script = done.2 ∙ sym (ap (list_map (λ (c : ClientCalls). c.user)) is) in

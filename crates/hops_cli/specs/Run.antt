@@ -4,7 +4,6 @@ use Rattle.name_space.specs.Namespace.{Namespace, opening}
 use Rattle.name_space.specs.Calls.{as_read, replies_of, space_after}
 use Rattle.name_space.specs.Script.{Script, ClientCalls}
 use Rattle.name_space.specs.declared.reply.Reply.{Reply}
-use Rattle.script_text.specs.SmallForm.{IsSmallScript}
 use Rattle.commit_log.specs.declared.note.Note.{Note}
 use Rattle.commit_log.specs.declared.answer.AnswerLine.{AnswerLine}
 use Rattle.commit_log.specs.declared.answer.CallEnd.{CallEnd}
@@ -13,11 +12,6 @@ use Rattle.commit_log.specs.Told.{Told}
 use Rattle.commit_log.specs.Kept.{KeptWithoutLocks}
 use Rattle.commit_log.specs.Samples.{client}
 use Rattle.report_text.specs.Report.{report_text}
-
--- a small script that stops no namenode
-pub record IsPlainScript (script : Script) : Type 0 where
-  pub small : IsSmallScript script
-  pub stays : script.stops ≡ []
 
 -- the reply that a call was answered
 abbrev pub reply_in : CallEnd → Option Reply

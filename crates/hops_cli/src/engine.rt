@@ -5,8 +5,8 @@ ghost use Rattle.name_space.specs.Script.{users_of};
 ghost use Rattle.std.specs.List.{list_all};
 ghost use Rattle.name_space.specs.Call.{is_valid};
 ghost use Rattle.name_space.specs.Script.{is_client};
-ghost use Rattle.script_text.specs.SmallForm.{is_small_call, is_small_client};
-ghost use Rattle.hops_cli.specs.Run.{IsPlainScript, IsRun};
+ghost use Rattle.hops_cli.specs.Built.{is_built, is_built_client, IsBuilt};
+ghost use Rattle.hops_cli.specs.Run.{IsRun};
 ghost use Rattle.hops_cli.specs.Turning.{users_in, IsNew, IsReady, IsTurned, AreTurned, AreAllTurned};
 
 use crate::resolve::view_of;
@@ -37,7 +37,7 @@ pub struct Ran {
 
 /// Runs the clients' calls in order on a new namespace.
 pub fn run(alloc: Global, script: &Script) -> Result<Ran, NoMemory>
-    requires { IsPlainScript script.now }
+    requires { IsBuilt script.now }
     ensures { IfOk result (λ ran. IsRun script.now ran.book.notes ran.answers.items ran.tree.items) }
 {
     let settings = settings_of(alloc, script)?;
@@ -55,7 +55,7 @@ pub fn run(alloc: Global, script: &Script) -> Result<Ran, NoMemory>
 
 // What a database is to know of the script.
 fn settings_of(alloc: Global, script: &Script) -> Result<Settings, NoMemory>
-    requires { IsPlainScript script.now }
+    requires { IsBuilt script.now }
     ensures { IfOk result (λ settings. settings.users ≡ users_of script.now) }
 {
     let mut users = UserList::new(alloc);
@@ -79,7 +79,7 @@ fn run_clients(
     answers: &mut Vec<AnswerLine>,
 ) -> Result<(), NoMemory>
     requires few { length clients.now ≤ 1 }
-    requires small { list_all is_small_client clients.now ≡ true }
+    requires small { list_all is_built_client clients.now ≡ true }
     requires valid { list_all is_client clients.now ≡ true }
     requires new { IsNew (users_in clients.now) db.old answers.old.items }
     ensures { OnOk result (AreAllTurned clients.now db.new answers.new.items) }
@@ -97,7 +97,7 @@ fn run_client(
     client: &ClientCalls,
     answers: &mut Vec<AnswerLine>,
 ) -> Result<(), NoMemory>
-    requires small { is_small_client client.now ≡ true }
+    requires small { is_built_client client.now ≡ true }
     requires valid { is_client client.now ≡ true }
     requires new { IsNew (client.now.user ∷ []) db.old answers.old.items }
     ensures { OnOk result (AreTurned (client.now.user ∷ []) client.now.calls (length client.now.calls) db.new answers.new.items) }
@@ -122,7 +122,7 @@ fn run_call(
     user: &User,
     call: &Call,
 ) -> Result<CallEnd, NoMemory>
-    requires small { is_small_call call.now ≡ true }
+    requires small { is_built call.now ≡ true }
     requires valid { is_valid call.now ≡ true }
     requires ready { IsReady db.old user.now }
     ensures { IfOk result (λ end. IsTurned db.old db.new number call.now end) }

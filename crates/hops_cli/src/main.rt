@@ -3,16 +3,21 @@
 //! It stands on `inode_ops` and `db_state` for the calls, on `commit_log` for the book, and on `script_text` and
 //! `report_text` for the texts. It promises on [`top`] that what is written is the report of a script's run,
 //! whose book, answers and tree tell one legal history of a plain namespace; which words are a command; that
-//! each failure of a device has its cause; that too large an input is told exactly; and that a script is
-//! answered as not built exactly where it is none of the form that is.
+//! each failure of a device has its cause; that too large an input is told exactly; that bytes which are no
+//! script are answered by their first fault; and that a script is answered as not built exactly where it
+//! needs what isn't, which is named.
 #![tactic(auto)]
 
-ghost use Rattle.std.specs.Prelude.{None, map, IfOk};
+ghost use Rattle.std.specs.Prelude.{◌≡◌, ◌≤◌, Ok, map, IfOk};
+ghost use Rattle.hops_base.specs.Devices.{Stock};
+ghost use Rattle.hops_cli.specs.declared.words.Command.TheVariants.{Run, Gen};
 ghost use Rattle.std.specs.String.{string_bytes};
-ghost use Rattle.hops_cli.specs.Ends.{Ends};
-ghost use Rattle.hops_cli.specs.Run.{IsPlainScript, IsReportOf};
-ghost use Rattle.hops_cli.specs.Words.{usage_place};
+ghost use Rattle.hops_cli.specs.Ends.{Ends, generated_line};
+ghost use Rattle.hops_cli.specs.Built.{IsBuilt};
+ghost use Rattle.hops_cli.specs.Run.{IsReportOf};
+ghost use Rattle.hops_cli.specs.Words.{asked_by};
 
+mod built;
 mod engine;
 mod give_out;
 mod resolve;
@@ -21,16 +26,17 @@ mod streams;
 mod take_in;
 mod words;
 
+use built::unbuilt;
 use give_out::{GivenOut, give_all};
 use hops_base::{NoMemory, Sink, Source};
 use report_text::report_of;
-use script_text::{Script, SmallFormFault, read_small_form};
+use script_text::{Script, ScriptError, generate, read_script, write_script};
 pub use status::Status;
 use std::alloc::Global;
 use std::process::ExitCode;
 use streams::{InputSource, OutputSink};
 use take_in::{TakenIn, take_all};
-use words::{usage_place, words_given};
+use words::{Command, asked_by, words_given};
 
 // The most bytes of a script.
 const SCRIPT_LIMIT: usize = 16_777_216;
@@ -42,17 +48,24 @@ pub fn top<S: Source, W: Sink>(
     source: &mut S,
     sink: &mut W,
 ) -> Status
-    ensures { Ends (usage_place (map string_bytes words.now)) result (S.stock source.old) (S.stock source.new) (W.store sink.old) (W.store sink.new) }
+    ensures { Ends (asked_by (map string_bytes words.now)) result (S.stock source.old) (S.stock source.new) (W.store sink.old) (W.store sink.new) }
 {
-    match usage_place(words) {
-        Some(place) => Status::Usage(place),
-        None => run_script(alloc, source, sink),
+    match asked_by(words) {
+        Ok(Command::Run) => run_script(alloc, source, sink),
+        Ok(
+            Command::Gen {
+                seed,
+                clients,
+                calls,
+            },
+        ) => make_script(alloc, seed, clients, calls, sink),
+        Err(place) => Status::Usage(place),
     }
 }
 
 /// Reads a script from the source to its end, runs it and writes the report to the sink.
 pub fn run_script<S: Source, W: Sink>(alloc: Global, source: &mut S, sink: &mut W) -> Status
-    ensures { Ends None result (S.stock source.old) (S.stock source.new) (W.store sink.old) (W.store sink.new) }
+    ensures { Ends (Ok Run) result (S.stock source.old) (S.stock source.new) (W.store sink.old) (W.store sink.new) }
 {
     let bytes = match take_all(alloc, source, SCRIPT_LIMIT) {
         TakenIn::All(bytes) => bytes,
@@ -60,11 +73,14 @@ pub fn run_script<S: Source, W: Sink>(alloc: Global, source: &mut S, sink: &mut 
         TakenIn::Failed => return Status::ReadFault,
         TakenIn::NoMemory => return Status::NoMemory,
     };
-    let script = match read_small_form(alloc, &bytes) {
+    let script = match read_script(alloc, &bytes) {
         Ok(script) => script,
-        Err(SmallFormFault::Bad) => return Status::Unbuilt { client: 0, call: 0 },
-        Err(SmallFormFault::NoMemory) => return Status::NoMemory,
+        Err(ScriptError::Bad(fault)) => return Status::BadScript(fault),
+        Err(ScriptError::NoMemory) => return Status::NoMemory,
     };
+    if let Some((client, call)) = unbuilt(&script) {
+        return Status::Unbuilt { client, call };
+    }
     let Ok(text) = run_report(alloc, &script) else {
         return Status::NoMemory;
     };
@@ -75,9 +91,46 @@ pub fn run_script<S: Source, W: Sink>(alloc: Global, source: &mut S, sink: &mut 
     }
 }
 
+/// Writes the script of this seed, of so many clients with so many calls each, in its canonical text, and a
+/// newline to the sink.
+pub fn make_script<W: Sink>(
+    alloc: Global,
+    seed: u32,
+    clients: u32,
+    calls: u32,
+    sink: &mut W,
+) -> Status
+    requires some { 1 ≤ clients }
+    requires few { clients ≤ 64 }
+    requires short { calls ≤ 5000 }
+    ensures { (stock : Stock) → Ends (Ok (Gen seed clients calls)) result stock stock (W.store sink.old) (W.store sink.new) }
+{
+    let Ok(text) = generated_text(alloc, seed, clients, calls) else {
+        return Status::NoMemory;
+    };
+    match give_all(sink, &text) {
+        GivenOut::All => Status::Done,
+        GivenOut::Failed => Status::WriteFault,
+        GivenOut::NoMemory => Status::NoMemory,
+    }
+}
+
+// The canonical text of the script, and a newline.
+fn generated_text(alloc: Global, seed: u32, clients: u32, calls: u32) -> Result<Vec<u8>, NoMemory>
+    requires some { 1 ≤ clients }
+    requires few { clients ≤ 64 }
+    requires short { calls ≤ 5000 }
+    ensures { IfOk result (λ text. text.items ≡ generated_line seed clients calls) }
+{
+    let script = generate(alloc, seed, clients, calls)?;
+    let mut text = write_script(alloc, &script)?;
+    text.push(b'\n')?;
+    Ok(text)
+}
+
 // The report of the run of the script.
 fn run_report(alloc: Global, script: &Script) -> Result<Vec<u8>, NoMemory>
-    requires { IsPlainScript script.now }
+    requires { IsBuilt script.now }
     ensures { IfOk result (λ text. IsReportOf script.now text.items) }
 {
     let ran = engine::run(alloc, script)?;

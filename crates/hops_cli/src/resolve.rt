@@ -3,7 +3,7 @@
 ghost use Rattle.std.specs.Prelude.{◌≡◌, ◌+◌, ◌≤◌, ◌<◌, ◌^◌, [], ◌∷◌, true, length, IfOk, OnOk};
 ghost use Rattle.db_state.specs.State.{root_key, root_row};
 ghost use Rattle.name_space.specs.Call.{is_valid};
-ghost use Rattle.script_text.specs.SmallForm.{is_small_call};
+ghost use Rattle.hops_cli.specs.Built.{is_built};
 ghost use Rattle.hops_cli.specs.Reading.{IsRead, IsPlaceOf, IsViewAt, IsLastsChild};
 
 use db_state::{Db, FoundList, Place, PlaceList, QuotaList, View};
@@ -15,7 +15,7 @@ use std::alloc::Global;
 /// What a call reads of the tables, and how many rows it read for that. No call that is built makes quota
 /// rows, so none are read.
 pub fn view_of(alloc: Global, db: &Db, call: &Call) -> Result<(View, u64), NoMemory>
-    requires small { is_small_call call.now ≡ true }
+    requires small { is_built call.now ≡ true }
     requires valid { is_valid call.now ≡ true }
     ensures { IfOk result (λ viewed. IsViewAt db.now call.now viewed.0 viewed.1) }
 {

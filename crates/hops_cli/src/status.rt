@@ -3,6 +3,7 @@
 ghost use Rattle.std.specs.Prelude.{◌≡◌};
 ghost use Rattle.hops_cli.specs.Status.{number_of};
 
+use script_text::ScriptFault;
 use std::fmt;
 
 /// What the program answers: its exit status, and what it says on standard error.
@@ -13,6 +14,8 @@ pub enum Status {
     /// The words are no command. It names the place of the first bad word, or how many words there are
     /// where one is missing.
     Usage(u64),
+    /// The bytes are no script. It names the first rule that they break, and where.
+    BadScript(ScriptFault),
     /// The source failed.
     ReadFault,
     /// The sink failed.
@@ -21,8 +24,9 @@ pub enum Status {
     TooLarge,
     /// Memory ran out.
     NoMemory,
-    /// The script needs a part that isn't built yet. It names the first call that does, by its client and
-    /// its number from 1 on, or 0 and 0 where no call is to blame.
+    /// The script needs a part that isn't built yet. It names client 0 and call 0 where its counts of clients or
+    /// namenodes or its stops aren't built, and else the first call of a kind that isn't, by its client and
+    /// its number from 1 on.
     Unbuilt { client: u32, call: u32 },
 }
 
@@ -34,6 +38,7 @@ impl Status {
         match self {
             Status::Done => 0,
             Status::Usage(_) => 2,
+            Status::BadScript(_) => 3,
             Status::ReadFault => 4,
             Status::WriteFault => 5,
             Status::TooLarge => 6,
@@ -47,7 +52,14 @@ impl fmt::Display for Status {
     fn fmt<W: fmt::Write>(&self, f: &mut fmt::Formatter<W>) -> fmt::Result {
         match self {
             Status::Done => write!(f, "hops: done"),
-            Status::Usage(place) => write!(f, "hops: usage: run; word {place}"),
+            Status::Usage(place) => write!(
+                f,
+                "hops: usage: run, gen SEED CLIENTS CALLS; word {place}"
+            ),
+            Status::BadScript(fault) => {
+                let ScriptFault { rule, at, call, .. } = fault;
+                write!(f, "hops: bad script, rule {rule}, at {at}, call {call}")
+            }
             Status::ReadFault => write!(f, "hops: read fault"),
             Status::WriteFault => write!(f, "hops: write fault"),
             Status::TooLarge => write!(f, "hops: input too large"),

@@ -4,6 +4,7 @@ use crate::vectors::{
     ROOT_AND_MISSING_REPORT, SIBLINGS, SIBLINGS_REPORT,
 };
 use hops_base::{MemSink, MemSource, SteadySink, SteadySource};
+use script_text::ScriptFault;
 use std::test::Fail;
 
 const STATUS_OF_ANN: &str = "{\"kind\":\"dir\",\"mode\":493,\"owner\":\"ann\"}";
@@ -31,12 +32,25 @@ const NO_CALLS_REPORT: &str =
 [\"end\",0,0,1]
 ";
 
+const GENERATED: &str =
+    "{\"clients\":[{\"calls\":[[\"stat\",\"/n2\"]],\"user\":\"u0\"}],\"grace\":64,\"namenodes\":1,\"persist\":true,\"stops\":[],\"tries\":10000,\"version\":1}\n";
+
 // What `run` answers to these bytes, and what it writes.
 fn ran(alloc: Global, bytes: &[u8]) -> Result<(Status, SteadySink), Fail> {
     let mut source = SteadySource::new(Vec::from_slice(alloc, bytes)?);
     let mut sink = SteadySink::new(alloc);
     let status = run_script(alloc, &mut source, &mut sink);
     Ok((status, sink))
+}
+
+// The fault of so many bytes that have no reading as JSON.
+fn unreadable(bytes: u64) -> ScriptFault {
+    ScriptFault {
+        rule: 1,
+        at: bytes,
+        call: 0,
+        path: None,
+    }
 }
 
 // What `top` answers to these words, over an empty source.
@@ -72,13 +86,97 @@ fn bad_words(rt: HostRuntime) -> Result<(), Fail> {
     assert_eq!(rt; status_of(alloc, &["run", "now"])?, Status::Usage(1));
     assert_eq!(rt; status_of(alloc, &["run", "run", "run"])?, Status::Usage(1));
     assert_eq!(rt; status_of(alloc, &[])?, Status::Usage(0));
-    assert_eq!(rt; status_of(alloc, &["gen"])?, Status::Usage(0));
-    assert_eq!(rt; status_of(alloc, &["gen", "7", "1"])?, Status::Usage(0));
     assert_eq!(rt; status_of(alloc, &["Run"])?, Status::Usage(0));
     assert_eq!(rt;
         status_of(alloc, &["run"])?,
-        Status::Unbuilt { client: 0, call: 0 }
+        Status::BadScript(unreadable(0))
     );
+    Ok(())
+}
+
+#[test]
+fn bad_numbers(rt: HostRuntime) -> Result<(), Fail> {
+    let alloc = rt.alloc();
+    assert_eq!(rt; status_of(alloc, &["gen"])?, Status::Usage(1));
+    assert_eq!(rt; status_of(alloc, &["gen", "7", "1"])?, Status::Usage(3));
+    assert_eq!(rt;
+        status_of(alloc, &["gen", "4294967296", "1", "1"])?,
+        Status::Usage(1)
+    );
+    assert_eq!(rt;
+        status_of(alloc, &["gen", "+7", "1", "1"])?,
+        Status::Usage(1)
+    );
+    assert_eq!(rt;
+        status_of(alloc, &["gen", "00000000007", "1", "1"])?,
+        Status::Usage(1)
+    );
+    assert_eq!(rt;
+        status_of(alloc, &["gen", "7", "0", "1"])?,
+        Status::Usage(2)
+    );
+    assert_eq!(rt;
+        status_of(alloc, &["gen", "7", "65", "1"])?,
+        Status::Usage(2)
+    );
+    assert_eq!(rt;
+        status_of(alloc, &["gen", "7", "1", "5001"])?,
+        Status::Usage(3)
+    );
+    assert_eq!(rt;
+        status_of(alloc, &["gen", "7", "1", "1", "1"])?,
+        Status::Usage(4)
+    );
+    Ok(())
+}
+
+#[test]
+fn generated_script(rt: HostRuntime) -> Result<(), Fail> {
+    let alloc = rt.alloc();
+    let mut sink = SteadySink::new(alloc);
+    assert_eq!(rt; make_script(alloc, 7, 1, 1, &mut sink), Status::Done);
+    assert_eq!(rt; sink.written(), GENERATED.as_bytes());
+    assert_eq!(rt;
+        status_of(alloc, &["gen", "4294967295", "64", "0"])?,
+        Status::Done
+    );
+    Ok(())
+}
+
+#[test]
+fn bad_bytes(rt: HostRuntime) -> Result<(), Fail> {
+    let cut = FIRST_SCRIPT.as_bytes().get(..49).ok_or("short")?;
+    let (status, sink) = ran(rt.alloc(), cut)?;
+    assert_eq!(rt; status, Status::BadScript(unreadable(49)));
+    assert!(rt; sink.written().is_empty());
+    Ok(())
+}
+
+#[test]
+fn what_is_not_built(rt: HostRuntime) -> Result<(), Fail> {
+    let alloc = rt.alloc();
+    for (script, call) in [
+        (
+            "{\"version\":1,\"namenodes\":1,\"clients\":[{\"user\":\"ann\",\"calls\":[[\"mkdirs\",\"/a/b\"],[\"append\",\"/a\"]]}]}",
+            2,
+        ),
+        (
+            "{\"version\":1,\"namenodes\":2,\"clients\":[{\"user\":\"ann\",\"calls\":[[\"append\",\"/a\"]]}]}",
+            0,
+        ),
+        (
+            "{\"version\":1,\"namenodes\":1,\"stops\":[[0,5]],\"clients\":[]}",
+            0,
+        ),
+        (
+            "{\"version\":1,\"namenodes\":1,\"clients\":[{\"user\":\"ann\",\"calls\":[]},{\"user\":\"bob\",\"calls\":[]}]}",
+            0,
+        ),
+    ] {
+        let (status, sink) = ran(alloc, script.as_bytes())?;
+        assert_eq!(rt; status, Status::Unbuilt { client: 0, call }, "of {script}");
+        assert!(rt; sink.written().is_empty());
+    }
     Ok(())
 }
 
@@ -90,7 +188,7 @@ fn too_many_bytes(rt: HostRuntime) -> Result<(), Fail> {
     assert_eq!(rt; status, Status::TooLarge);
     assert!(rt; sink.written().is_empty());
     let (status, sink) = ran(alloc, &spaces[1..])?;
-    assert_eq!(rt; status, Status::Unbuilt { client: 0, call: 0 });
+    assert_eq!(rt; status, Status::BadScript(unreadable(16_777_216)));
     assert!(rt; sink.written().is_empty());
     Ok(())
 }
@@ -150,7 +248,16 @@ fn failing_sink(rt: HostRuntime) -> Result<(), Fail> {
 #[test]
 fn statuses(rt: HostRuntime) -> Result<(), Fail> {
     for (status, number, line) in [
-        (Status::Usage(3), 2, "hops: usage: run; word 3"),
+        (
+            Status::Usage(3),
+            2,
+            "hops: usage: run, gen SEED CLIENTS CALLS; word 3",
+        ),
+        (
+            Status::BadScript(unreadable(49)),
+            3,
+            "hops: bad script, rule 1, at 49, call 0",
+        ),
         (Status::ReadFault, 4, "hops: read fault"),
         (Status::WriteFault, 5, "hops: write fault"),
         (Status::TooLarge, 6, "hops: input too large"),

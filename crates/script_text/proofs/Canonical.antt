@@ -17,7 +17,7 @@ use Rattle.name_space.specs.declared.call.Call.{Call}
 use Rattle.name_space.specs.declared.call.Call.TheVariants as call
 use Rattle.script_text.specs.Form.{call_data, client_data, stop_data, script_data}
 use Rattle.script_text.specs.Faults.{fault, call_fault, client_fault, data_fault, value_of, stops_node, is_next_stop}
-use Rattle.script_text.specs.Grammar.{paths_of, IsSpelled, IsNameable, NamesPaths, CanName, SaysCall, SaysClient, IsScriptText}
+use Rattle.script_text.specs.Grammar.{paths_of, IsSpelled, IsNameable, NamesPaths, CanName, SaysCall, SaysClient, Says, IsScriptText}
 use Rattle.script_text.proofs.OneScript.{values_of-items_of}
 
 -- of three tests that all pass, the second and the third
@@ -129,7 +129,7 @@ calls_said [] named = tt
 calls_said (call ∷ calls) named = ((refl, spelled (paths_of call) named.0), calls_said calls named.1)
 
 -- the members of an object
-members_in : Data → Members
+pub members_in : Data → Members
 members_in value = unwrap_or (as_object value) no_members
 
 -- the values of clients say them
@@ -138,22 +138,28 @@ unfolding members_in
 clients_said [] named = tt
 clients_said (client ∷ clients) named = ((members_in (client_data client), refl, (refl, (map call_data client.calls, refl, calls_said client.calls named.0))), clients_said clients named.1)
 
+-- the members of the value of a script
+abbrev pub script_members : Script → Members
+script_members script = members_in (script_data script)
+
+-- they say it
+pub script_said : (script : Script) → CanName script → Says (script_members script) script
+unfolding members_in
+script_said script named =
+    record {
+      namenodes = refl;
+      clients = (map client_data script.clients, refl, clients_said script.clients named);
+      stops = refl;
+      tries = refl;
+      grace = refl;
+      persist = refl;
+    }
+
 -- bytes that are the value of a script are a text of it
 pub canonical : (bytes : List ℕ) (script : Script) → IsScript script → CanName script → value_of bytes ≡ Some (script_data script) → IsScriptText bytes script
 unfolding members_in
 canonical bytes script in_range named is =
     record {
       good = ap (λ value. option_map_or data_fault value (Some (fault 1 (length bytes) 0))) is ∙ script_good script in_range named;
-      says = (
-        members_in (script_data script),
-        is,
-        record {
-          namenodes = refl;
-          clients = (map client_data script.clients, refl, clients_said script.clients named);
-          stops = refl;
-          tries = refl;
-          grace = refl;
-          persist = refl;
-        },
-      );
+      says = (script_members script, is, script_said script named);
     }

@@ -322,6 +322,11 @@ call_said at n value h =
     let c = option_or-none (unless (has_range value) (fault 16 at n)) None b.1 in
     call_exact value (unless-none _ _ a.0) (option_map-none (bad_path at n) (refused_path value) b.0) (unless-none _ _ c.0)
 
+-- some call is said by it
+pub some_call_said : (at n : ℕ) (value : Data) → call_fault at (n, value) ≡ None → (call : Call) × SaysCall value call
+unfolding CallSaid
+some_call_said at n value h = let said = call_said at n value h in (said.0, said.1)
+
 -- calls without a fault are said
 calls_exact : (at n : ℕ) (values : List Data) → first_some (map (call_fault at) (enumerate_from n values)) ≡ None
     → (calls : List Call) × AllZip SaysCall values calls × AllByRecursion NamesPaths calls × (list_all is_valid calls ≡ true) × (length calls ≡ length values)
@@ -423,7 +428,7 @@ abbrev node_no : ℕ → NodeNo
 node_no n = record { 0 = n }
 
 -- the value is the stop that it is read as
-stop_is : (value : Data) (stop : NodeNo × ℕ) → stop_of value ≡ Some stop → value ≡ stop_data stop
+pub stop_is : (value : Data) (stop : NodeNo × ℕ) → stop_of value ≡ Some stop → value ≡ stop_data stop
 stop_is null stop h = cc
 stop_is (boolean b) stop h = cc
 stop_is (number n) stop h = cc
@@ -508,7 +513,7 @@ stops_at namenodes None h = ([], refl, refl, tt)
 stops_at namenodes (Some value) h = stops_in namenodes value (as_array value) refl h
 
 -- the members of a script without a fault say it
-members_exact : (ms : Members) → members_fault ms ≡ None → (script : Script) × IsScript script × CanName script × Says ms script
+pub members_exact : (ms : Members) → members_fault ms ≡ None → (script : Script) × IsScript script × CanName script × Says ms script
 members_exact ms h =
     let keys = option_or-none (unless (has_known_keys ms) (fault 3 0 0)) _ h in
     let version = option_or-none (unless (has_version ms) (fault 4 0 0)) _ keys.1 in

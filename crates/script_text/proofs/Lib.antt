@@ -4,5 +4,10 @@ pub mod Literals
 mod OneScript
 pub mod NoFloat
 mod ViewLemmas
-mod SmallForm
-pub mod SmallFormLaws
+mod Reading
+mod Values
+mod Generated
+mod GeneratedScripts
+mod ReadBack
+mod WrittenText
+pub mod ScriptLaws

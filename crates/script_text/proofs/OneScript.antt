@@ -165,6 +165,10 @@ script_from-says ms script s =
 abbrev members_in : Option Data → Members
 members_in value = unwrap_or (as_object (unwrap_or value null)) no_members
 
+-- two scripts that the same members say are one
+pub one_of_members : (ms : Members) (p q : Script) → Says ms p → Says ms q → p ≡ q
+one_of_members ms p q a b = sym (script_from-says ms p a) ∙ script_from-says ms q b
+
 -- two scripts of one text are one
 pub one_script : (bytes : List ℕ) (p q : Script) → IsScriptText bytes p → IsScriptText bytes q → p ≡ q
 one_script bytes p q a b =

@@ -62,9 +62,17 @@ call_forms =
 abbrev pub behind_name : Data → List Data
 behind_name call = drop 1 (values_in call)
 
+-- the form of this name
+abbrev pub form_named : List ℕ → Option CallForm
+form_named name = find (λ form. bytes_eq name (codes form.name)) call_forms
+
+-- the name of a call
+abbrev pub named_by : Data → Option (List ℕ)
+named_by call = option_and_then as_str (slice_get (values_in call) 0)
+
 -- the form that a call's name is of
 abbrev pub form_of : Data → Option CallForm
-form_of call = option_and_then (λ name. find (λ form. bytes_eq name (codes form.name)) call_forms) (option_and_then as_str (slice_get (values_in call) 0))
+form_of call = option_and_then form_named (named_by call)
 
 -- rule 14: the call has a known name, and behind it what its form has there, in count and in shape
 abbrev pub has_form : Data → Bool

@@ -24,13 +24,25 @@ fault rule at call = record { rule = rule; at = at; call = call; path = None }
 abbrev pub unless : Bool → ScriptFault → Option ScriptFault
 unless holds told = if holds then None else Some told
 
+-- there is a value, and it passes the test
+abbrev pub has_in : (Data → Bool) → Option Data → Bool
+has_in test value = option_map_or test value false
+
+-- where there is a value, it passes the test
+abbrev pub may_have_in : (Data → Bool) → Option Data → Bool
+may_have_in test value = option_map_or test value true
+
 -- there is a value at the key, and it passes the test
 abbrev pub has : String → (Data → Bool) → Members → Bool
-has key test ms = option_map_or test (at_key key ms) false
+has key test ms = has_in test (at_key key ms)
 
 -- where there is a value at the key, it passes the test
 abbrev pub may_have : String → (Data → Bool) → Members → Bool
-may_have key test ms = option_map_or test (at_key key ms) true
+may_have key test ms = may_have_in test (at_key key ms)
+
+-- the value is a count
+abbrev pub is_count_data : Data → Bool
+is_count_data value = option_map_or is_count (as_whole value) false
 
 -- an array of at most so many values
 abbrev pub is_short_array : ℕ → Data → Bool
@@ -121,7 +133,7 @@ has_namenodes = has "namenodes" (is_within 1 most_namenodes)
 
 -- rules 6 and 7, of tries and grace: where the key is there, its value is a count
 abbrev pub may_count : String → Members → Bool
-may_count key = may_have key (λ value. option_map_or is_count (as_whole value) false)
+may_count key = may_have key is_count_data
 
 -- rule 8: where it is said whether calls persist, it is by a truth value
 abbrev pub may_persist : Members → Bool

@@ -1,6 +1,7 @@
 -- Which bytes are which script. This project's own.
 use Rattle.std.specs.Prelude.{◌≡◌, ℕ, true, List, [], map, Some, None, unwrap_or, Result, Ok, Err, ⊤}
 use Rattle.std.specs.List.{AllZip, AllByRecursion}
+use Rattle.std.specs.Str.{is_utf8}
 use Rattle.hops_base.specs.Path.{text_of, names_in, path_fault}
 use Rattle.name_space.specs.Script.{ClientCalls, Script, default_tries, default_grace}
 use Rattle.name_space.specs.declared.call.Call.{Call}
@@ -59,3 +60,7 @@ NamesPaths call = AllByRecursion IsNameable (paths_of call)
 -- every call of the script can name its paths
 abbrev pub CanName : Script → Type 0
 CanName script = AllByRecursion (λ (client : ClientCalls). AllByRecursion NamesPaths client.calls) script.clients
+
+-- the text of each path of the script is UTF-8
+abbrev pub HasTexts : Script → Type 0
+HasTexts script = AllByRecursion (λ (client : ClientCalls). AllByRecursion (λ (call : Call). AllByRecursion (λ (path : List (List ℕ)). is_utf8 (text_of path) ≡ true) (paths_of call)) client.calls) script.clients

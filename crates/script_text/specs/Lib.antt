@@ -6,4 +6,5 @@ pub mod Grammar
 pub mod Rows
 pub mod Built
 pub mod Script
-pub mod SmallForm
+pub mod Reading
+pub mod Generator

@@ -1,6 +1,10 @@
 //! Why bytes are no script.
 
-use hops_base::PathFault;
+ghost use Rattle.std.specs.Prelude.{◌≡◌};
+ghost use Rattle.script_text.specs.Faults.{fault};
+
+use hops_base::{NoMemory, PathFault};
+use thiserror::Error;
 
 /// The first rule that bytes break, as scripts are tested. The rules are this project's own:
 ///
@@ -39,11 +43,37 @@ pub struct ScriptFault {
     pub path: Option<PathFault>,
 }
 
+impl ScriptFault {
+    // The fault by a rule at a place and a call, where no path is refused.
+    pub(crate) fn new(rule: u8, at: u64, call: u32) -> ScriptFault
+        ensures { result ≡ fault rule at call }
+    {
+        ScriptFault {
+            rule,
+            at,
+            call,
+            path: None,
+        }
+    }
+}
+
 /// Why bytes gave no script.
-#[derive(Clone, Copy, Debug, PartialEq, Eq)]
+#[derive(Clone, Copy, Debug, PartialEq, Eq, Error)]
 pub enum ScriptError {
     /// They are no script.
+    #[error("bad script, rule {}, at {}, call {}", .0.rule, .0.at, .0.call)]
     Bad(ScriptFault),
     /// Memory ran out.
+    #[error("out of memory")]
     NoMemory,
+}
+
+impl From<NoMemory> for ScriptError {
+    ghost use Rattle.script_text.specs.declared.fault.ScriptError.TheVariants as told;
+
+    ghost from_gives = { λ _ error. error ≡ told.NoMemory };
+
+    fn from(_error: NoMemory) -> ScriptError {
+        ScriptError::NoMemory
+    }
 }

@@ -1,33 +1,33 @@
 //! Worked texts.
 
-ghost use Rattle.std.specs.Prelude.{◌≡◌, ℕ, List, codes, Some, None};
+ghost use Rattle.std.specs.Prelude.{◌≡◌, ◌≤◌, ℕ, List, codes, Some, None};
 ghost use Rattle.name_space.specs.Script.{Script, IsScript};
 ghost use Rattle.hops_base.specs.declared.path_text.PathFault.TheVariants.{Relative, EmptyName};
 ghost use Rattle.script_text.specs.Form.{script_data, script_text};
 ghost use Rattle.script_text.specs.Faults.{fault, bad_path, value_of, script_fault};
-ghost use Rattle.script_text.specs.Grammar.{CanName, IsScriptText};
-ghost use Rattle.script_text.specs.SmallForm.{IsSmallForm};
-ghost use Rattle.script_text.specs.Rows.{plain_script, first_script, first_bytes, small_generated, small_text, with_members, with_clients, with_second_call};
+ghost use Rattle.script_text.specs.Grammar.{CanName, HasTexts, IsScriptText};
+ghost use Rattle.script_text.specs.Generator.{generated};
+ghost use Rattle.script_text.specs.Rows.{first_script, first_bytes, small_generated, small_text, with_members, with_clients, with_second_call};
 
 /// What is written for a small script.
 pub fn generated_script_is_written()
     ensures { script_text small_generated ≡ small_text }
 {}
 
+/// What is generated for a seed, for one client and one call.
+pub fn first_draws()
+    ensures { generated 7 1 1 ≡ small_generated }
+{}
+
+/// What is generated is within its ranges.
+pub fn generated_is_a_script()
+    ensures { (seed clients calls : ℕ) → 1 ≤ clients → clients ≤ 64 → calls ≤ 5000
+        → IsScript (generated seed clients calls) }
+{}
+
 /// The first script is read.
 pub fn first_script_is_read()
     ensures { IsScriptText first_bytes first_script }
-{}
-
-/// The first script is of the small form.
-pub fn first_script_is_small()
-    ensures { IsSmallForm first_bytes first_script }
-{}
-
-/// A script of the small form says nothing but its clients: at one namenode, with the defaults for the rest.
-pub fn small_form_says_little()
-    ensures { (bytes : List ℕ) (script : Script) → IsSmallForm bytes script
-        → script ≡ plain_script script.clients }
 {}
 
 /// A text is of one script.
@@ -39,6 +39,25 @@ pub fn text_is_of_one_script()
 pub fn written_value_is_read()
     ensures { (bytes : List ℕ) (script : Script) → IsScript script → CanName script
         → value_of bytes ≡ Some (script_data script) → IsScriptText bytes script }
+{}
+
+/// The text that is written for a script is a text of it, where its calls can name their paths and these
+/// are UTF-8.
+pub fn canonical_text_is_read()
+    ensures { (script : Script) → IsScript script → CanName script → HasTexts script
+        → IsScriptText (script_text script) script }
+{}
+
+/// No two scripts are written as one text, where their calls can name their paths.
+pub fn canonical_text_is_of_one_script()
+    ensures { (p q : Script) → IsScript p → IsScript q → CanName p → CanName q
+        → script_text p ≡ script_text q → p ≡ q }
+{}
+
+/// A script that is read is within its ranges, and its calls can name their paths.
+pub fn read_script_is_in_range()
+    ensures { (bytes : List ℕ) (script : Script) → IsScriptText bytes script
+        → IsScript script × CanName script }
 {}
 
 /// Bytes that break no rule are a text of a script, whose calls can name their paths.

@@ -1,22 +1,29 @@
 //! Scripts and their texts.
 //!
-//! It stands on `hops_base`, `name_space` and `serde_json`. It says which bytes are a text of which
-//! script, and of other bytes which rule they break first and where. It shows that a text is of one
-//! script, that the value written for a script is read as that script, and that bytes which break no rule
-//! are the text of one.
+//! It stands on `hops_base`, `name_space`, `serde_json` and `thiserror`, and its proofs on `json` too. It
+//! says which bytes are a text of which script, of other bytes which rule they break first and where, and
+//! which script is generated for a seed. It shows that a text is of one script, that the text which is
+//! written for a script is one of its texts and of no other script, that bytes which break no rule are the
+//! text of a script, and that what is generated is within its ranges.
 //!
-//! It promises that a [`Script`] keeps its ranges, and that [`write_script`] gives the very bytes of the one
-//! text in which the script is written, or wants memory. [`Row`] and [`Fields`] build values of JSON, whose
-//! members stand in the byte order of their keys.
+//! It promises that [`read_script`] reads exactly the scripts, and tells of other bytes the first fault, or
+//! wants memory; that a [`Script`] keeps its ranges; that [`write_script`] gives the very bytes of the one
+//! text in which the script is written, which are read as that script, or wants memory; and that
+//! [`generate`] gives the one script of a seed, or wants memory. [`Row`] and [`Fields`] build values of
+//! JSON, whose members stand in the byte order of their keys.
 #![tactic(auto)]
 
 mod build;
 mod call_form;
+mod call_forms;
 mod fault;
+mod generator;
 pub mod laws;
 mod members;
+mod read;
+mod read_call;
+mod read_stops;
 mod script;
-mod small_form;
 #[cfg(test)]
 mod tests;
 mod write;
@@ -24,6 +31,7 @@ mod write;
 pub use build::{Fields, Row};
 pub use call_form::call_value;
 pub use fault::{ScriptError, ScriptFault};
+pub use generator::generate;
+pub use read::read_script;
 pub use script::{CallList, ClientCalls, ClientList, Script};
-pub use small_form::{SmallFormFault, read_small_form};
 pub use write::{script_value, write_script};

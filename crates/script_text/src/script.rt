@@ -7,6 +7,11 @@ use hops_base::{ItemList, StopList, User};
 use name_space::Call;
 use std::marker::Model;
 
+// What a script has of conflicts and beats where it says nothing of them.
+pub(crate) const DEFAULT_TRIES: u32 = 10_000;
+
+pub(crate) const DEFAULT_GRACE: u32 = 64;
+
 /// Calls.
 pub type CallList = ItemList<Call>;
 

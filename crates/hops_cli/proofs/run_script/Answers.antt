@@ -1,17 +1,22 @@
-use Rattle.std.proofs.Common.{◌≡◌, List, ℕ, [], Result, Ok, Err, length, refl, ap, sym, subst, ◌∙◌}
+use Rattle.std.proofs.Common.{◌≡◌, ◌≤◌, List, ℕ, [], Option, Some, None, Result, Ok, Err, length, take, refl, ap, sym, subst, ◌∙◌, arith}
 use Rattle.std.proofs.Math.Seq.{take-length}
-use Rattle.script_text.specs.SmallForm.{IsSmallForm, IsReadAs}
-use Rattle.script_text.specs.declared.small_form.SmallFormFault.{SmallFormFault}
-use Rattle.script_text.specs.declared.small_form.SmallFormFault.TheVariants.{Bad, NoMemory}
+use Rattle.name_space.specs.Script.{Script}
+use Rattle.script_text.specs.Grammar.{IsScriptText, IsRead}
+use Rattle.script_text.specs.Faults.{script_fault}
+use Rattle.script_text.specs.declared.fault.ScriptFault.{ScriptFault}
+use Rattle.script_text.specs.declared.fault.ScriptError.{ScriptError}
+use Rattle.script_text.specs.declared.fault.ScriptError.TheVariants.{Bad, NoMemory}
 use Rattle.hops_cli.specs.Transfer.{HasGiven}
+use Rattle.hops_cli.specs.Built.{unbuilt}
+use Rattle.hops_cli.proofs.BuiltLemmas.{built_from}
 use Rattle.hops_cli.proofs.Transfers.{HasGiven-none}
 use Rattle.hops_cli.proofs.run_script.Goals as goal
 
--- where none is read, there is none
-none_read : {T : Type 0} (Is : T → Type 0) (read : Result T SmallFormFault) → IsReadAs Is read → read ≡ Err Bad → (x : T) → Is x → ⊥
-none_read Is (Ok y) as_read is x said = absurd (let bad = is in cc)
-none_read Is (Err Bad) as_read is x said = as_read x said
-none_read Is (Err NoMemory) as_read is x said = absurd (let bad = is in cc)
+-- the fault that is told is the first
+bad_told : (bytes : List ℕ) (read : Result Script ScriptError) (fault : ScriptFault) → IsRead bytes read → read ≡ Err (Bad fault) → script_fault bytes ≡ Some fault
+bad_told bytes (Ok script) fault as_read is = absurd (let bad = is in cc)
+bad_told bytes (Err (Bad told)) fault as_read is = let same : told ≡ fault = cc in as_read ∙ ap (λ (f : ScriptFault). Some f) same
+bad_told bytes (Err NoMemory) fault as_read is = absurd (let bad = is in cc)
 
 pub returns-in-Err-Bad : goal.returns-in-Err-Bad
 returns-in-Err-Bad g c = record {
@@ -20,18 +25,29 @@ returns-in-Err-Bad g c = record {
   written = 0;
   takes = c.in-All.ensures.0;
   gives = HasGiven-none _;
-  by_words = refl;
   by_size = c.in-All.ensures.1;
   cause = (
     c.in-All.ensures.2,
-    λ script is. none_read (IsSmallForm c.in-All.bytes.items) c.read_small_form.result
-        (subst (λ (bytes : List ℕ). IsReadAs (IsSmallForm bytes) c.read_small_form.result) c.deref.ensures.value c.read_small_form.ensures.form)
-        (c.in-Err-Bad.is ∙ ap Err c.in-Err-Bad.field-0-is) script is,
-    refl,
-    refl,
+    bad_told c.in-All.bytes.items c.read_script.result c.in-Err-Bad.fault
+        (subst (λ (bytes : List ℕ). IsRead bytes c.read_script.result) c.deref.ensures.value c.read_script.ensures) (c.in-Err-Bad.is ∙ ap Err c.in-Err-Bad.field-0-is)
+        ∙ ap (λ (fault : ScriptFault). Some fault) (sym c.in-Err-Bad.fault-is),
     refl,
   );
 }
+
+pub returns-in-Some : goal.returns-in-Some
+returns-in-Some g c = record {
+  taken = c.in-All.bytes.items;
+  text = [];
+  written = 0;
+  takes = c.in-All.ensures.0;
+  gives = HasGiven-none _;
+  by_size = c.in-All.ensures.1;
+  cause = (c.in-All.ensures.2, (c.in-Ok.script, subst (λ (bytes : List ℕ). IsScriptText bytes c.in-Ok.script) c.deref.ensures.value c.in-Ok.ensures, sym c.unbuilt.ensures ∙ c.in-Some.is), refl);
+}
+
+pub run_report-requires : goal.run_report-requires
+run_report-requires g c = built_from c.in-Ok.script (sym c.unbuilt.ensures ∙ c.in_default.is)
 
 pub returns-in-All-give_all : goal.returns-in-All-give_all
 returns-in-All-give_all g c = record {
@@ -41,7 +57,6 @@ returns-in-All-give_all g c = record {
   takes = c.in-All.ensures.0;
   gives = subst (λ (given : List ℕ). HasGiven given (g.W.Sink.store c.args.sink.now) (g.W.Sink.store c.give_all.new.sink))
       (c.deref-2.ensures.value ∙ sym (take-length c.in-Ok-run_report.text.items)) c.in-All-give_all.ensures;
-  by_words = refl;
   by_size = c.in-All.ensures.1;
-  cause = (c.in-All.ensures.2, (c.in-Ok.script, subst (λ (bytes : List ℕ). IsSmallForm bytes c.in-Ok.script) c.deref.ensures.value c.in-Ok.ensures.form, c.in-Ok-run_report.ensures), refl);
+  cause = (c.in-All.ensures.2, (c.in-Ok.script, subst (λ (bytes : List ℕ). IsScriptText bytes c.in-Ok.script) c.deref.ensures.value c.in-Ok.ensures, sym c.unbuilt.ensures ∙ c.in_default.is, c.in-Ok-run_report.ensures), refl);
 }

@@ -1,9 +1,13 @@
 use Rattle.std.proofs.Common.{ap, ◌∙◌}
 use Rattle.serde_json.specs.Written.{has_float, compact_text}
 use Rattle.script_text.proofs.NoFloat.{no_float_in_script}
+use Rattle.script_text.proofs.WrittenText.{written_read}
 use Rattle.script_text.proofs.write.write_script.Goals as goal
 
-pub returns : goal.returns
-returns c =
+pub returns-clause-text : goal.returns-clause-text
+returns-clause-text c =
     let built = c.in_ok-script_value.ensures in
     c.in_ok-to_vec.ensures.text (ap has_float built ∙ no_float_in_script c.args.script.now) ∙ ap compact_text built
+
+pub returns-clause-read_back : goal.returns-clause-read_back
+returns-clause-read_back c named = written_read _ c.args.script.now c.namenodes-in_range.ensures.script (returns-clause-text c) c.in_ok-to_vec.ensures.utf8 named

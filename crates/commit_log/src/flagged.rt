@@ -1,0 +1,152 @@
+//! The operations whose flags are set.
+
+ghost use Rattle.std.specs.Prelude.{◌≡◌, ◌||◌, ◌&&◌, ◌==◌, cond, Some, None, option_map, IfOk, OnOk};
+ghost use Rattle.std.specs.BTreeMap.{get};
+ghost use Rattle.std.specs.BTreeSet as sorted;
+ghost use Rattle.std.specs.List.Sorted.{IsStrictlySortedBy};
+ghost use Rattle.std.specs.Option.{option_or};
+ghost use Rattle.hops_base.specs.declared.ids.OpId.{OpId};
+ghost use Rattle.hops_base.specs.declared.ids.SessionId.{SessionId};
+ghost use Rattle.commit_log.specs.Parts.{passes, Flagging, flagged, flags_op};
+ghost use Rattle.commit_log.specs.Places.{is_answer_of, is_past, reclaims_op};
+ghost use Rattle.commit_log.specs.Reads.{op_cmp, session_cmp, is_flagged, FlagsExactly};
+ghost use Rattle.commit_log.specs.Runs.{IsRuns, op_and_session, runs_on};
+
+use crate::note::{Note, Work};
+use hops_base::{NoMemory, OpId, SessionId};
+use std::alloc::Global;
+use std::collections::{BTreeMap, BTreeSet};
+
+/// How many notes there are up to what tells which flags are set.
+#[derive(Drop)]
+pub struct Runs {
+    flagged: BTreeMap<OpId, u64>,
+    reclaimed: BTreeMap<OpId, u64>,
+    answered: BTreeMap<SessionId, u64>,
+}
+
+/// The operations whose flags are set at the end of the notes, rising.
+pub fn flagged_ops(alloc: Global, notes: &[Note]) -> Result<Vec<OpId>, NoMemory>
+    ensures { IfOk result (λ ops. FlagsExactly notes.now ops.items) }
+{
+    let runs = runs_of(alloc, notes)?;
+    let ops = running_ops(alloc, notes, &runs)?;
+    in_order(alloc, ops)
+}
+
+// Looks through the notes for what sets and ends flags.
+fn runs_of(alloc: Global, notes: &[Note]) -> Result<Runs, NoMemory>
+    ensures { IfOk result (λ runs. IsRuns notes.now runs) }
+{
+    let mut runs = Runs {
+        flagged: BTreeMap::new(alloc),
+        reclaimed: BTreeMap::new(alloc),
+        answered: BTreeMap::new(alloc),
+    };
+    for (i, note) in notes.iter().enumerate() {
+        let count = i as u64 + 1;
+        mark_flag(&mut runs.flagged, count, note)?;
+        mark_reclaim(&mut runs.reclaimed, count, note)?;
+        mark_answer(&mut runs.answered, count, note)?;
+    }
+    Ok(runs)
+}
+
+// Keeps how many notes there are up to the first flag of each operation.
+fn mark_flag(first: &mut BTreeMap<OpId, u64>, count: u64, note: &Note) -> Result<(), NoMemory>
+    ensures ok { OnOk result ((op : OpId) → get op_cmp first.new op ≡ option_or (get op_cmp first.old op) (cond (flags_op op note.now) (Some count) None)) }
+{
+    if let Note::Wrote(_, Work::Flag(op, _, _)) = note {
+        if !first.contains_key(op) {
+            first.insert(*op, count)?;
+        }
+    }
+    Ok(())
+}
+
+// Keeps how many notes there are up to the last reclaim of each operation.
+fn mark_reclaim(last: &mut BTreeMap<OpId, u64>, count: u64, note: &Note) -> Result<(), NoMemory>
+    ensures ok { OnOk result ((op : OpId) → get op_cmp last.new op ≡ cond (reclaims_op op note.now) (Some count) (get op_cmp last.old op)) }
+{
+    if let Note::Wrote(_, Work::Reclaim(op)) = note {
+        last.insert(*op, count)?;
+    }
+    Ok(())
+}
+
+// Keeps how many notes there are up to the last answer of each session.
+fn mark_answer(last: &mut BTreeMap<SessionId, u64>, count: u64, note: &Note) -> Result<(), NoMemory>
+    ensures ok { OnOk result ((s : SessionId) → get session_cmp last.new s ≡ cond (is_answer_of s note.now) (Some count) (get session_cmp last.old s)) }
+{
+    if let Note::Did(s, _, _, _, _, _) = note {
+        last.insert(*s, count)?;
+    }
+    Ok(())
+}
+
+// The operations of the flags that nothing has ended.
+fn running_ops(alloc: Global, notes: &[Note], runs: &Runs) -> Result<BTreeSet<OpId>, NoMemory>
+    requires { IsRuns notes.now runs.now }
+    ensures { IfOk result (λ ops. (op : OpId) → sorted.contains op_cmp ops op ≡ is_flagged notes.now op) }
+{
+    let mut ops = BTreeSet::new(alloc);
+    for note in notes {
+        add_running(&mut ops, runs, note)?;
+    }
+    Ok(ops)
+}
+
+// Adds the operation whose flag the note sets, where nothing has ended it.
+fn add_running(ops: &mut BTreeSet<OpId>, runs: &Runs, note: &Note) -> Result<(), NoMemory>
+    ensures ok { OnOk result ((op : OpId) → sorted.contains op_cmp ops.new op ≡ (sorted.contains op_cmp ops.old op || passes (λ (f : Flagging). runs_on runs.now f.op f.session && (f.op.0 == op.0)) (flagged note.now))) }
+{
+    if let Some((op, s)) = flag_in(note) {
+        if is_running(runs, op, s) {
+            ops.insert(op)?;
+        }
+    }
+    Ok(())
+}
+
+// The operation whose flag the note sets, and its session.
+fn flag_in(note: &Note) -> Option<(OpId, SessionId)>
+    ensures { result ≡ option_map op_and_session (flagged note.now) }
+{
+    match note {
+        Note::Wrote(s, Work::Flag(op, _, _)) => Some((*op, *s)),
+        _ => None,
+    }
+}
+
+// Whether nothing has ended the operation of the session since its flag.
+fn is_running(runs: &Runs, op: OpId, s: SessionId) -> bool
+    ensures { result ≡ runs_on runs.now op s }
+{
+    let since = runs.flagged.get(&op).copied();
+    let reclaimed = runs.reclaimed.get(&op).copied();
+    let answered = runs.answered.get(&s).copied();
+    !is_past(since, reclaimed) && !is_past(since, answered)
+}
+
+// Whether both are there, and the last stands after the first.
+fn is_past(first: Option<u64>, last: Option<u64>) -> bool
+    ensures { result ≡ is_past first last }
+{
+    match (first, last) {
+        (Some(first), Some(last)) => first < last,
+        _ => false,
+    }
+}
+
+// The operations of the set, rising.
+fn in_order(alloc: Global, ops: BTreeSet<OpId>) -> Result<Vec<OpId>, NoMemory>
+    ensures items { IfOk result (λ v. v.items ≡ ops.keys) }
+    ensures ordered { OnOk result (IsStrictlySortedBy op_cmp ops.keys) }
+{
+    // `len` tells the proof that the operations rise.
+    let _count = ops.len();
+    match ops.into_iter().collect(alloc) {
+        Ok(ops) => Ok(ops),
+        Err(_) => Err(NoMemory),
+    }
+}

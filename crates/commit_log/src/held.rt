@@ -1,0 +1,157 @@
+//! The locks that are held.
+
+ghost use Rattle.std.specs.Prelude.{◌≡◌, ◌++◌, map, cond, Some, None, option_map, IfOk, OnOk};
+ghost use Rattle.std.specs.BTreeMap.{get};
+ghost use Rattle.std.specs.List.Sorted.{IsPermutation, IsSorted, IsStable};
+ghost use Rattle.std.specs.Option.{option_or};
+ghost use Rattle.hops_base.specs.declared.ids.NodeNo.{NodeNo};
+ghost use Rattle.hops_base.specs.declared.ids.SessionId.{SessionId};
+ghost use Rattle.commit_log.specs.Parts.{loses};
+ghost use Rattle.commit_log.specs.Locks.{held};
+ghost use Rattle.commit_log.specs.Places.{gives_all, is_past, opens_at};
+ghost use Rattle.commit_log.specs.Reads.{lock_of, lock_cmp, node_cmp, session_cmp, HoldsExactly};
+ghost use Rattle.commit_log.specs.Losses.{IsLosses, after, stays_on, kept_of};
+
+use crate::note::Note;
+use hops_base::{Key, Mode, NoMemory, NodeNo, SessionId};
+use std::alloc::Global;
+use std::collections::BTreeMap;
+
+/// How many notes there are up to what tells which locks were given back.
+#[derive(Drop)]
+pub struct Losses {
+    opened: BTreeMap<SessionId, (u64, NodeNo)>,
+    gave: BTreeMap<SessionId, u64>,
+    gone: BTreeMap<NodeNo, u64>,
+}
+
+/// The locks that are held at the end of the notes, by key and then by session.
+pub fn held_locks(alloc: Global, notes: &[Note]) -> Result<Vec<(SessionId, Key, Mode)>, NoMemory>
+    ensures { IfOk result (λ locks. HoldsExactly notes.now locks.items) }
+{
+    let losses = losses_of(alloc, notes)?;
+    let locks = lasting_locks(alloc, notes, &losses)?;
+    in_order(locks)
+}
+
+// Looks through the notes for what opens sessions and gives locks back.
+fn losses_of(alloc: Global, notes: &[Note]) -> Result<Losses, NoMemory>
+    ensures { IfOk result (λ losses. IsLosses notes.now losses) }
+{
+    let mut losses = Losses {
+        opened: BTreeMap::new(alloc),
+        gave: BTreeMap::new(alloc),
+        gone: BTreeMap::new(alloc),
+    };
+    for (i, note) in notes.iter().enumerate() {
+        let count = i as u64 + 1;
+        mark_opening(&mut losses.opened, count, note)?;
+        mark_giving(&mut losses.gave, count, note)?;
+        mark_loss(&mut losses.gone, count, note)?;
+    }
+    Ok(losses)
+}
+
+// Keeps how many notes there are up to the opening of each session, and its namenode.
+fn mark_opening(
+    opened: &mut BTreeMap<SessionId, (u64, NodeNo)>,
+    count: u64,
+    note: &Note,
+) -> Result<(), NoMemory>
+    ensures ok { OnOk result ((s : SessionId) → get session_cmp opened.new s ≡ option_or (get session_cmp opened.old s) (option_map (after count) (opens_at s note.now))) }
+{
+    if let Note::Open(s, _, _, node) = note {
+        if !opened.contains_key(s) {
+            opened.insert(*s, (count, *node))?;
+        }
+    }
+    Ok(())
+}
+
+// Keeps how many notes there are up to the last by which each session gave all its locks back.
+fn mark_giving(last: &mut BTreeMap<SessionId, u64>, count: u64, note: &Note) -> Result<(), NoMemory>
+    ensures ok { OnOk result ((s : SessionId) → get session_cmp last.new s ≡ cond (gives_all s note.now) (Some count) (get session_cmp last.old s)) }
+{
+    if let Note::Gave(s) | Note::Did(s, _, _, _, _, _) = note {
+        last.insert(*s, count)?;
+    }
+    Ok(())
+}
+
+// Keeps how many notes there are up to the last by which each namenode was gone.
+fn mark_loss(last: &mut BTreeMap<NodeNo, u64>, count: u64, note: &Note) -> Result<(), NoMemory>
+    ensures ok { OnOk result ((node : NodeNo) → get node_cmp last.new node ≡ cond (loses node note.now) (Some count) (get node_cmp last.old node)) }
+{
+    if let Note::Gone(node, _) = note {
+        last.insert(*node, count)?;
+    }
+    Ok(())
+}
+
+// The locks that nothing has given back, in the order in which they were taken.
+fn lasting_locks(
+    alloc: Global,
+    notes: &[Note],
+    losses: &Losses,
+) -> Result<Vec<(SessionId, Key, Mode)>, NoMemory>
+    requires { IsLosses notes.now losses.now }
+    ensures { IfOk result (λ locks. locks.items ≡ map lock_of (held notes.now)) }
+{
+    let mut locks = Vec::new(alloc);
+    for (i, note) in notes.iter().enumerate() {
+        add_lasting(&mut locks, losses, i as u64 + 1, note)?;
+    }
+    Ok(locks)
+}
+
+// Adds the lock that the note takes, where nothing has given it back.
+fn add_lasting(
+    locks: &mut Vec<(SessionId, Key, Mode)>,
+    losses: &Losses,
+    count: u64,
+    note: &Note,
+) -> Result<(), NoMemory>
+    ensures ok { OnOk result (locks.new.items ≡ locks.old.items ++ map lock_of (kept_of losses.now count note.now)) }
+{
+    if let Note::Took(s, key, mode) = note {
+        if stays_on(losses, count, *s) {
+            locks.push((*s, key.copy()?, *mode))?;
+        }
+    }
+    Ok(())
+}
+
+// Whether a lock that the session took by the last of so many notes is still held.
+fn stays_on(losses: &Losses, count: u64, s: SessionId) -> bool
+    ensures { result ≡ stays_on losses.now count s }
+{
+    let gave = losses.gave.get(&s).copied();
+    let lost = match losses.opened.get(&s).copied() {
+        Some((opened, node)) => {
+            let gone = losses.gone.get(&node).copied();
+            is_past(count.max(opened), gone)
+        }
+        None => false,
+    };
+    !is_past(count, gave) && !lost
+}
+
+// Whether it is there, and more than so many.
+fn is_past(count: u64, last: Option<u64>) -> bool
+    ensures { result ≡ is_past (Some count) last }
+{
+    match last {
+        Some(last) => count < last,
+        None => false,
+    }
+}
+
+// The locks by key and then by session.
+fn in_order(mut locks: Vec<(SessionId, Key, Mode)>) -> Result<Vec<(SessionId, Key, Mode)>, NoMemory>
+    ensures all { IfOk result (λ v. IsPermutation locks.items v.items) }
+    ensures rise { IfOk result (λ v. IsSorted lock_cmp v.items) }
+    ensures stable { IfOk result (λ v. IsStable lock_cmp locks.items v.items) }
+{
+    locks.sort_by(|a, b| a.1.cmp(&b.1).then(a.0.cmp(&b.0)))?;
+    Ok(locks)
+}

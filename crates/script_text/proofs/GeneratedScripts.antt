@@ -1,0 +1,145 @@
+-- What is generated is within its ranges.
+use Rattle.std.proofs.Common.{◌≡◌, ◌≤◌, ◌<◌, ℕ, suc, zero, ◌+◌, ◌*◌, ◌%◌, ◌==◌, Bool, true, false, ◌&&◌, nat_le, List, [], ◌∷◌, ◌++◌, map, length, get_or, min, Some, None, codes, decimal, refl, sym, ap, subst, ◌∙◌, arith, le-leb, inl, inr, length-append, mod-lt}
+use Rattle.std.specs.Fmt.{digits}
+use Rattle.std.specs.List.{AllByRecursion, range_with_len, list_all, IsDistinct}
+use Rattle.std.specs.Cmp.{first_so, second_so}
+use Rattle.std.proofs.lemmas.Bool.{cases_eq, eqb-true}
+use Rattle.std.proofs.lemmas.List.FromFn.{length-map-range_with_len}
+use Rattle.hops_base.specs.Path.{is_short, joined, text_of}
+use Rattle.hops_base.specs.User.{is_user}
+use Rattle.name_space.specs.Call.{is_valid}
+use Rattle.name_space.specs.Script.{IsScript, is_client}
+use Rattle.name_space.specs.declared.call.Call.{Call}
+use Rattle.name_space.specs.declared.call.Call.TheVariants as call
+use Rattle.script_text.specs.Generator.{Drawing, next_state, times, made_of, any_below, any_to, any_truth, any_name, any_path, kinds, any_call, first_state, user_of, client_generated, generated, made_of_both}
+
+-- ---- finitely many numbers
+
+-- the test passes for each number below this one
+abbrev pub holds_below : (ℕ → Bool) → ℕ → Bool
+holds_below test zero = true
+holds_below test (suc n) = test n && holds_below test n
+
+pub holds_at : (test : ℕ → Bool) (n k : ℕ) → holds_below test n ≡ true → k < n → test k ≡ true
+holds_at test zero k all less = absurd (omega arith)
+holds_at test (suc n) k all less = elim (cases_eq k n) [ inl same ↦ rw same (first_so (test n) (holds_below test n) all) | inr other ↦ holds_at test n k (second_so (test n) (holds_below test n) all) (omega arith) ]
+
+-- ---- paths
+
+-- a name that is drawn has two bytes
+has_two_bytes : ℕ → Bool
+has_two_bytes digit = length (codes "n" ++ decimal digit) == 2
+
+names_have_two : holds_below has_two_bytes 6 ≡ true
+unfolding digits has_two_bytes
+names_have_two = refl
+
+name_length : (state : ℕ) → length (any_name state).0 ≡ 2
+unfolding has_two_bytes
+name_length state = let less : next_state state % 6 < 6 = omega arith in eqb-true _ _ (holds_at has_two_bytes 6 (next_state state % 6) names_have_two less)
+
+-- so many things are drawn
+pub length-times : {A : Type 0} (each : Drawing A) (n state : ℕ) → length (times n each state).0 ≡ n
+length-times each zero state = refl
+length-times each (suc n) state = ap suc (length-times each n (each state).1)
+
+-- each name has three bytes of the text
+length-joined : (n state : ℕ) → length (joined (times n any_name state).0) ≡ 3 * n
+length-joined zero state = refl
+length-joined (suc n) state =
+    let rest = length-joined n (any_name state).1 in
+    let name = name_length state in
+    let both = length-append (any_name state).0 (joined (times n any_name (any_name state).1).0) in
+    omega arith
+
+text_short : (path : List (List ℕ)) → length (joined path) ≤ 9 → length (text_of path) ≤ 9
+text_short [] short = omega arith
+text_short (name ∷ names) short = short
+
+-- a path that is drawn is short
+pub path_short : (state : ℕ) → is_short (any_path state).0 ≡ true
+path_short state =
+    let names = 1 + next_state state % 3 in
+    let few : names ≤ 3 = omega arith in
+    let path = (times names any_name (next_state state)).0 in
+    let count = length-times any_name names (next_state state) in
+    let bytes = length-joined names (next_state state) in
+    let text = text_short path (omega arith) in
+    rw (le-leb (length path) 1000 (omega arith), le-leb (length (text_of path)) 8000 (omega arith)) refl
+
+-- ---- calls
+
+-- what is drawn so is a valid call
+abbrev IsValidDrawing : Drawing Call → Type 0
+IsValidDrawing each = (state : ℕ) → is_valid (each state).0 ≡ true
+
+-- a number that is drawn is in its range
+to_range : (n state : ℕ) → 0 < n → (1 ≤ (any_to n state).0) × ((any_to n state).0 ≤ n)
+to_range n state some = let less = mod-lt (next_state state) some in (omega arith, omega arith)
+
+two_pass : (a b : Bool) → a ≡ true → b ≡ true → (a && b) ≡ true
+two_pass true b e f = f
+two_pass false b e f = e
+
+kinds_valid : AllByRecursion IsValidDrawing kinds
+kinds_valid = (path_short, (path_short, (path_short, (path_short, (path_short, (path_short, (grow, (path_short, (path_short, (path_short, (path_short, (path_short, (path_short, (rename, (chmod, (quota, tt))))))))))))))))
+  where
+    grow : (state : ℕ) → is_valid ((made_of_both call.Grow any_path (any_to 1000)) state).0 ≡ true
+    grow state =
+        let range = to_range 1000 (any_path state).1 (omega arith) in
+        rw (path_short state, le-leb 1 _ range.0, le-leb (any_to 1000 (any_path state).1).0 4294967296 (omega (arith, range.1))) refl
+
+    rename : (state : ℕ) → is_valid ((made_of_both call.Rename any_path any_path) state).0 ≡ true
+    rename state = two_pass _ _ (path_short state) (path_short (any_path state).1)
+
+    chmod : (state : ℕ) → is_valid ((made_of_both call.Chmod any_path (any_below 512)) state).0 ≡ true
+    chmod state =
+        let less : next_state (any_path state).1 % 512 < 512 = omega arith in
+        two_pass _ _ (path_short state) (le-leb _ 511 (omega arith))
+
+    quota : (state : ℕ) → is_valid ((made_of_both (λ path names. call.SetQuota path (Some names) None) any_path (any_to 50)) state).0 ≡ true
+    quota state =
+        let range = to_range 50 (any_path state).1 (omega arith) in
+        rw (path_short state, le-leb 1 _ range.0, le-leb (any_to 50 (any_path state).1).0 1000000000000000 (omega (arith, range.1))) refl
+
+-- each of these drawings is one of valid calls
+one_valid : (each : List (Drawing Call)) (i : ℕ) (other : Drawing Call) → AllByRecursion IsValidDrawing each → IsValidDrawing other → IsValidDrawing (get_or each i other)
+one_valid [] i other all valid = valid
+one_valid (first ∷ rest) zero other all valid = all.0
+one_valid (first ∷ rest) (suc i) other all valid = one_valid rest i other all.1 valid
+
+call_valid : IsValidDrawing any_call
+call_valid state = one_valid kinds (next_state state % 16) (made_of call.Mkdirs any_path) kinds_valid path_short (next_state state)
+
+calls_valid : (n state : ℕ) → list_all is_valid (times n any_call state).0 ≡ true
+calls_valid zero state = refl
+calls_valid (suc n) state = two_pass _ _ (call_valid state) (calls_valid n (any_call state).1)
+
+-- ---- clients
+
+users_good : holds_below (λ client. is_user (user_of client)) 64 ≡ true
+unfolding digits
+users_good = refl
+
+client_good : (seed calls client : ℕ) → client < 64 → calls ≤ 5000 → is_client (client_generated seed calls client) ≡ true
+client_good seed calls client few short =
+    let user = holds_at (λ n. is_user (user_of n)) 64 client users_good few in
+    let state = first_state seed client in
+    let count = length-times any_call calls state in
+    two_pass _ _ (two_pass _ _ user (le-leb (length (times calls any_call state).0) 65536 (omega arith))) (calls_valid calls state)
+
+clients_good : (seed calls first n : ℕ) → first + n ≤ 64 → calls ≤ 5000 → list_all is_client (map (client_generated seed calls) (range_with_len first n)) ≡ true
+clients_good seed calls first zero few short = refl
+clients_good seed calls first (suc n) few short = two_pass _ _ (client_good seed calls first (omega arith) short) (clients_good seed calls (first + 1) n (omega arith) short)
+
+-- the script is within its ranges
+pub generated_good : (seed clients calls : ℕ) → 1 ≤ clients → clients ≤ 64 → calls ≤ 5000 → IsScript (generated seed clients calls)
+unfolding IsDistinct
+generated_good seed clients calls some few short =
+    record {
+      namenodes = (omega arith, omega arith);
+      clients = (let count = length-map-range_with_len (client_generated seed calls) 0 clients in omega arith, clients_good seed calls 0 clients (omega arith) short);
+      stops = (refl, tt);
+      tries = refl;
+      grace = refl;
+    }

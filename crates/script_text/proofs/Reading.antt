@@ -1,0 +1,291 @@
+-- What readers of parts of a script answer.
+use Rattle.std.proofs.Common.{◌≡◌, ℕ, zero, suc, take, not, ◌==◌, if◌then◌else◌, ◌+◌, ◌<◌, ◌≤◌, le-leb, length, drop, get_or, ◌&&◌, nat_le, Bool, true, false, List, [], ◌∷◌, map, filter_map, Option, Some, None, Result, Ok, Err, option_and_then, option_map, find, is_some, ◌++◌, unwrap_or, refl, sym, ap, subst, ◌∙◌}
+use Rattle.std.specs.List.{list_all, list_any, enumerate_from}
+use Rattle.std.specs.Option.{option_map_or, option_or}
+use Rattle.hops_base.specs.declared.ids.NodeNo.{NodeNo}
+use Rattle.name_space.specs.Script.{Script, IsScript, is_stop}
+use Rattle.script_text.specs.Form.{stop_data}
+use Rattle.std.specs.Result.{IsErr, IsErrAnd}
+use Rattle.std.specs.Cmp.Lexicographic.{pointwise}
+use Rattle.hops_base.specs.First.{first_some}
+use Rattle.hops_base.specs.Path.{path_fault}
+use Rattle.name_space.specs.declared.call.Call.{Call}
+use Rattle.name_space.specs.declared.call.Call.TheVariants as call
+use Rattle.serde_json.specs.Data.{Data, boolean, array, Items, Members}
+use Rattle.serde_json.specs.Find.{as_array, as_str}
+use Rattle.serde_json.specs.View.{view}
+use Rattle.serde_json.specs.declared.value.Value.{Value}
+use Rattle.std.proofs.lemmas.List.{drop_more, take_more, map-append, length-map}
+use Rattle.script_text.proofs.OneScript.{values_of-items_of, one_of_members}
+use Rattle.script_text.specs.declared.fault.ScriptFault.{ScriptFault}
+use Rattle.script_text.specs.declared.fault.ScriptError.{ScriptError}
+use Rattle.script_text.specs.declared.fault.ScriptError.TheVariants.{Bad, NoMemory}
+use Rattle.script_text.specs.Json.{whole, row, values_of, at_key, as_whole, optional}
+use Rattle.script_text.specs.CallForms.{has_shape, has_form, refused_path, has_range, behind_name, form_named, named_by}
+use Rattle.script_text.specs.Faults.{fault, unless, members_fault, has_known_keys, has_version, has_namenodes, may_count, may_persist, namenodes_in, stops_fault, bad_stop, call_fault, client_fault, stop_of, stops_node, is_next_stop}
+use Rattle.script_text.specs.Grammar.{SaysCall, Says}
+use Rattle.script_text.specs.Reading.{IsReadOf, stop_after, early_fault, HasClients, call_made, calls_fault, clients_fault}
+use Rattle.script_text.proofs.Exact.{unless-none, stop_is, members_exact, some_call_said, is_array, items_of-values_of}
+
+-- the answer is this error
+pub error_is : {T : Type 0} (r : Result T ScriptError) (told : ScriptError) → IsErr r × IsErrAnd r (λ e. e ≡ told) → r ≡ Err told
+error_is (Ok x) told h = absurd h.1
+error_is (Err e) told h = ap Err h.1
+
+-- the fault of a part is passed on where it is the fault of the whole
+pub passed_on : {T U : Type 0} (part whole : Option ScriptFault) (Is : T → Type 0) (Also : U → Type 0) (r : Result T ScriptError) (q : Result U ScriptError) (told : ScriptError) → IsReadOf part Is r → r ≡ Err told → IsErr q × IsErrAnd q (λ e. e ≡ told)
+    → ((f : ScriptFault) → part ≡ Some f → whole ≡ Some f) → IsReadOf whole Also q
+passed_on {T} {U} part whole Is Also r q told h is same more = subst (IsReadOf whole Also) (sym (error_is q told same)) (by told (subst (IsReadOf part Is) is h))
+  where
+    by : (told : ScriptError) → IsReadOf part Is (Err told) → IsReadOf whole Also (Err told)
+    by (Bad f) bad = more f bad
+    by NoMemory bad = tt
+
+-- what is read of a part is read of the whole, where both have one fault
+pub read_so : {T : Type 0} (part whole : Option ScriptFault) (Is Also : T → Type 0) (r : Result T ScriptError) → part ≡ whole → ((x : T) → Is x → Also x) → IsReadOf part Is r → IsReadOf whole Also r
+read_so part whole Is Also (Ok x) same more h = (sym same ∙ h.0, more x h.1)
+read_so part whole Is Also (Err (Bad f)) same more h = sym same ∙ h
+read_so part whole Is Also (Err NoMemory) same more h = tt
+
+-- ---- lists of values
+
+-- the first fault of what is left of the values
+pub fault_next : (f : ℕ × Data → Option ScriptFault) (n : ℕ) (values : List Value) (i : ℕ) (v : Value) → i < length values → v ≡ get_or values i v
+    → first_some (map f (enumerate_from n (map view (drop i values)))) ≡ option_or (f (n, view v)) (first_some (map f (enumerate_from (n + 1) (map view (drop (i + 1) values)))))
+fault_next f n values i v lt is =
+    let next : drop i values ≡ v ∷ drop (i + 1) values = drop_more values i v lt ∙ ap (λ w. w ∷ drop (i + 1) values) (sym is) in
+    ap (λ (l : List Value). first_some (map f (enumerate_from n (map view l)))) next
+
+-- it is that of the next value, where that has one
+pub fault_here : (f : ℕ × Data → Option ScriptFault) (n : ℕ) (values : List Value) (i : ℕ) (v : Value) (whole : Option ScriptFault) (told : ScriptFault) → i < length values → v ≡ get_or values i v
+    → first_some (map f (enumerate_from n (map view (drop i values)))) ≡ whole → f (n, view v) ≡ Some told → whole ≡ Some told
+fault_here f n values i v whole told lt is before here = sym before ∙ fault_next f n values i v lt is ∙ ap (λ (o : Option ScriptFault). option_or o (first_some (map f (enumerate_from (n + 1) (map view (drop (i + 1) values)))))) here
+
+-- else that of the values behind it
+pub fault_later : (f : ℕ × Data → Option ScriptFault) (n : ℕ) (values : List Value) (i : ℕ) (v : Value) (whole : Option ScriptFault) → i < length values → v ≡ get_or values i v
+    → first_some (map f (enumerate_from n (map view (drop i values)))) ≡ whole → f (n, view v) ≡ None → first_some (map f (enumerate_from (n + 1) (map view (drop (i + 1) values)))) ≡ whole
+fault_later f n values i v whole lt is before none = sym (ap (λ (o : Option ScriptFault). option_or o (first_some (map f (enumerate_from (n + 1) (map view (drop (i + 1) values)))))) none) ∙ sym (fault_next f n values i v lt is) ∙ before
+
+-- values are as many as what is seen of them
+pub few_seen : (most : ℕ) (values : List Value) → length values ≤ most → nat_le (length (map view values)) most ≡ true
+few_seen most values few = rw (length-map values view) (le-leb (length values) most few)
+
+-- ---- arrays at keys
+
+-- the value is the array whose values were found
+pub array_there : (o : Option Data) (values : List Data) → Some values ≡ option_map values_of (option_and_then as_array o) → o ≡ Some (row values)
+array_there None values h = cc
+array_there (Some value) values h = among (as_array value) refl h
+  where
+    among : (p : Option Items) → as_array value ≡ p → Some values ≡ option_map values_of p → Some value ≡ Some (row values)
+    among None e f = cc
+    among (Some items) e f = ap Some (is_array value items e ∙ ap array (sym (items_of-values_of items)) ∙ ap row (sym (ap (λ (p : Option (List Data)). unwrap_or p []) f)))
+
+-- the fault of the calls at their key
+pub calls_fault_is : (at : ℕ) (ms : Members) (values : List Data) → at_key "calls" ms ≡ Some (row values) → nat_le (length values) 65536 ≡ true
+    → first_some (map (call_fault at) (enumerate_from 1 values)) ≡ calls_fault at ms
+calls_fault_is at ms values there few = sym (rw (there, values_of-items_of values, few) (first_alone (first_some (map (call_fault at) (enumerate_from 1 values)))))
+  where
+    first_alone : (o : Option ScriptFault) → option_or o None ≡ o
+    first_alone None = refl
+    first_alone (Some f) = refl
+
+-- the fault of the clients at theirs
+pub clients_fault_is : (ms : Members) (values : List Data) → at_key "clients" ms ≡ Some (row values) → nat_le (length values) 64 ≡ true
+    → first_some (map client_fault (enumerate_from 0 values)) ≡ clients_fault ms
+clients_fault_is ms values there few = sym (rw (there, values_of-items_of values, few) (first_alone (first_some (map client_fault (enumerate_from 0 values)))))
+  where
+    first_alone : (o : Option ScriptFault) → option_or o None ≡ o
+    first_alone None = refl
+    first_alone (Some f) = refl
+
+-- ---- calls
+
+-- the call of a name and the values behind it, where both are told from a value
+made_of : Data → Option Call
+made_of value = option_and_then (λ name. call_made name (behind_name value)) (named_by value)
+
+-- a number or null is read back
+whole-optional : (limit : Option ℕ) → as_whole (optional limit) ≡ limit
+whole-optional None = refl
+whole-optional (Some n) = refl
+
+-- it is the call that the value says
+made_says : (value : Data) (c : Call) → SaysCall value c → made_of value ≡ Some c
+unfolding made_of
+made_says value (call.Mkdirs path) s = ap made_of s.0 ∙ ap (λ p. Some (call.Mkdirs p)) s.1.0
+made_says value (call.Create path overwrite) s = ap made_of s.0 ∙ ap (λ p. Some (call.Create p overwrite)) s.1.0
+made_says value (call.Append path) s = ap made_of s.0 ∙ ap (λ p. Some (call.Append p)) s.1.0
+made_says value (call.Grow path bytes) s = ap made_of s.0 ∙ ap (λ p. Some (call.Grow p bytes)) s.1.0
+made_says value (call.Close path) s = ap made_of s.0 ∙ ap (λ p. Some (call.Close p)) s.1.0
+made_says value (call.Stat path) s = ap made_of s.0 ∙ ap (λ p. Some (call.Stat p)) s.1.0
+made_says value (call.List path) s = ap made_of s.0 ∙ ap (λ p. Some (call.List p)) s.1.0
+made_says value (call.Delete path recursive) s = ap made_of s.0 ∙ ap (λ p. Some (call.Delete p recursive)) s.1.0
+made_says value (call.Rename source target) s = ap made_of s.0 ∙ (λ i. Some (call.Rename (s.1.0 i) (s.1.1.0 i)))
+made_says value (call.Chmod path mode) s = ap made_of s.0 ∙ ap (λ p. Some (call.Chmod p mode)) s.1.0
+made_says value (call.SetQuota path names bytes) s = ap made_of s.0 ∙ (λ i. Some (call.SetQuota (s.1.0 i) (whole-optional names i) (whole-optional bytes i)))
+made_says value (call.Usage path) s = ap made_of s.0 ∙ ap (λ p. Some (call.Usage p)) s.1.0
+
+-- where no rule of a call is broken, the call that was made is said
+pub call_read : (at n : ℕ) (value : Data) (name : List ℕ) (rest : List Data) (c : Call) → Some name ≡ named_by value → rest ≡ behind_name value
+    → option_map_or (λ form. pointwise has_shape form.shapes rest) (form_named name) false ≡ true
+    → first_some (map path_fault (filter_map as_str rest)) ≡ None
+    → option_map_or (λ form. list_all (λ n. nat_le form.least n && nat_le n form.most) (filter_map as_whole rest)) (form_named name) false ≡ true
+    → call_made name rest ≡ Some c → (call_fault at (n, value) ≡ None) × SaysCall value c
+unfolding made_of
+call_read at n value name rest c named behind fits paths range made =
+    let form : has_form value ≡ true = (λ i. option_map_or (λ form. pointwise has_shape form.shapes (sym behind i)) (option_and_then form_named (sym named i)) false) ∙ fits in
+    let good : refused_path value ≡ None = ap (λ (vs : List Data). first_some (map path_fault (filter_map as_str vs))) (sym behind) ∙ paths in
+    let within : has_range value ≡ true = (λ i. option_map_or (λ form. list_all (λ n. nat_le form.least n && nat_le n form.most) (filter_map as_whole (sym behind i))) (option_and_then form_named (sym named i)) false) ∙ range in
+    let none : call_fault at (n, value) ≡ None = rw (form, good, within) refl in
+    let said = some_call_said at n value none in
+    let of_value : made_of value ≡ call_made name rest = (λ i. option_and_then (λ t. call_made t (sym behind i)) (sym named i)) in
+    let same : said.0 ≡ c = ap (λ (o : Option Call). unwrap_or o said.0) (sym (made_says value said.0 said.1) ∙ of_value ∙ made) in
+    (none, subst (SaysCall value) same said.1)
+
+-- ---- stops
+
+-- a stop's data is read as it
+stop_read : (stop : NodeNo × ℕ) → stop_of (stop_data stop) ≡ Some stop
+stop_read stop = refl
+
+-- one of the values is a stop of the namenode where one of the stops is
+any_stops : (node : NodeNo) (stops : List (NodeNo × ℕ)) → list_any (stops_node node) (map stop_data stops) ≡ list_any (λ stop. stop.0.0 == node.0) stops
+any_stops node [] = refl
+any_stops node (stop ∷ stops) = rw (any_stops node stops) refl
+
+-- the values before a place
+take-seen : (values : List Value) (i : ℕ) → take i (map view values) ≡ map view (take i values)
+take-seen [] zero = refl
+take-seen [] (suc i) = refl
+take-seen (v ∷ values) zero = refl
+take-seen (v ∷ values) (suc i) = ap (λ l. view v ∷ l) (take-seen values i)
+
+-- the first bad value of what is left of all, from this place on
+abbrev pub find_bad : ℕ → List Data → ℕ → List Data → Option (ℕ × Data)
+find_bad namenodes all n left = find (λ (p : ℕ × Data). not (is_next_stop namenodes (take p.0 all) p.1)) (enumerate_from n left)
+
+-- the value at a place is not bad exactly where a stop is read of it
+next_by : (namenodes : ℕ) (values : List Value) (stops : List (NodeNo × ℕ)) (i : ℕ) (v : Data) → map view (take i values) ≡ map stop_data stops
+    → is_next_stop namenodes (take i (map view values)) v ≡ is_some (stop_after namenodes stops v)
+next_by namenodes values stops i v before =
+    let seen : take i (map view values) ≡ map stop_data stops = take-seen values i ∙ before in
+    ap (λ (l : List Data). is_next_stop namenodes l v) seen ∙ by (stop_of v)
+  where
+    apart : (stop : NodeNo × ℕ) (b : Bool) → not b ≡ is_some (if b then None else Some stop)
+    apart stop true = refl
+    apart stop false = refl
+
+    choose : (b : Bool) (stop : NodeNo × ℕ) → (b && not (list_any (stops_node stop.0) (map stop_data stops))) ≡ is_some (option_and_then (λ (s : NodeNo × ℕ). if list_any (λ (other : NodeNo × ℕ). other.0.0 == s.0.0) stops then None else Some s) (if b then Some stop else None))
+    choose true stop = ap not (any_stops stop.0 stops) ∙ apart stop (list_any (λ (other : NodeNo × ℕ). other.0.0 == stop.0.0) stops)
+    choose false stop = refl
+
+    by : (o : Option (NodeNo × ℕ)) → option_map_or (λ (stop : NodeNo × ℕ). is_stop namenodes stop && not (list_any (stops_node stop.0) (map stop_data stops))) o false ≡ is_some (option_and_then (λ (s : NodeNo × ℕ). if list_any (λ (other : NodeNo × ℕ). other.0.0 == s.0.0) stops then None else Some s) (option_and_then (λ (stop : NodeNo × ℕ). if is_stop namenodes stop then Some stop else None) o))
+    by None = refl
+    by (Some stop) = choose (is_stop namenodes stop) stop
+
+-- the value is the stop that is read of it
+pub after_is : (namenodes : ℕ) (stops : List (NodeNo × ℕ)) (v : Data) (stop : NodeNo × ℕ) → stop_after namenodes stops v ≡ Some stop → v ≡ stop_data stop
+after_is namenodes stops v stop h = by (stop_of v) refl h
+  where
+    third : (s : NodeNo × ℕ) (b : Bool) → stop_of v ≡ Some s → (if b then None else Some s) ≡ Some stop → v ≡ stop_data stop
+    third s true e f = cc
+    third s false e f = stop_is v stop (e ∙ f)
+
+    second : (s : NodeNo × ℕ) (b : Bool) → stop_of v ≡ Some s → option_and_then (λ (t : NodeNo × ℕ). if list_any (λ (other : NodeNo × ℕ). other.0.0 == t.0.0) stops then None else Some t) (if b then Some s else None) ≡ Some stop → v ≡ stop_data stop
+    second s true e f = third s (list_any (λ (other : NodeNo × ℕ). other.0.0 == s.0.0) stops) e f
+    second s false e f = cc
+
+    by : (o : Option (NodeNo × ℕ)) → stop_of v ≡ o → option_and_then (λ (t : NodeNo × ℕ). if list_any (λ (other : NodeNo × ℕ). other.0.0 == t.0.0) stops then None else Some t) (option_and_then (λ (t : NodeNo × ℕ). if is_stop namenodes t then Some t else None) o) ≡ Some stop → v ≡ stop_data stop
+    by None e f = cc
+    by (Some s) e f = second s (is_stop namenodes s) e f
+
+-- the first bad value of what is left
+bad_next : (namenodes : ℕ) (all : List Data) (values : List Value) (i : ℕ) (v : Value) → i < length values → v ≡ get_or values i v
+    → find_bad namenodes all i (map view (drop i values)) ≡ (if not (is_next_stop namenodes (take i all) (view v)) then Some (i, view v) else find_bad namenodes all (i + 1) (map view (drop (i + 1) values)))
+bad_next namenodes all values i v lt is =
+    let next : drop i values ≡ v ∷ drop (i + 1) values = drop_more values i v lt ∙ ap (λ w. w ∷ drop (i + 1) values) (sym is) in
+    ap (λ (l : List Value). find_bad namenodes all i (map view l)) next
+
+-- where a stop is read of the next value, the first bad one is behind it
+pub bad_later : (namenodes : ℕ) (values : List Value) (stops : List (NodeNo × ℕ)) (i : ℕ) (v : Value) (stop : NodeNo × ℕ) (whole : Option (ℕ × Data)) → i < length values → v ≡ get_or values i v → map view (take i values) ≡ map stop_data stops → stop_after namenodes stops (view v) ≡ Some stop
+    → find_bad namenodes (map view values) i (map view (drop i values)) ≡ whole → find_bad namenodes (map view values) (i + 1) (map view (drop (i + 1) values)) ≡ whole
+bad_later namenodes values stops i v stop whole lt is before read_as from =
+    let good : is_next_stop namenodes (take i (map view values)) (view v) ≡ true = next_by namenodes values stops i (view v) before ∙ ap is_some read_as in
+    sym (ap (λ (b : Bool). if not b then Some (i, view v) else find_bad namenodes (map view values) (i + 1) (map view (drop (i + 1) values))) good) ∙ sym (bad_next namenodes (map view values) values i v lt is) ∙ from
+
+-- where none is, it is the first bad one
+pub bad_here : (namenodes : ℕ) (values : List Value) (stops : List (NodeNo × ℕ)) (i : ℕ) (v : Value) → i < length values → v ≡ get_or values i v → map view (take i values) ≡ map stop_data stops → stop_after namenodes stops (view v) ≡ None
+    → find_bad namenodes (map view values) i (map view (drop i values)) ≡ find_bad namenodes (map view values) 0 (map view values) → option_map (λ at. fault 9 at 0) (bad_stop namenodes (map view values)) ≡ Some (fault 9 i 0)
+bad_here namenodes values stops i v lt is before none from =
+    let bad : is_next_stop namenodes (take i (map view values)) (view v) ≡ false = next_by namenodes values stops i (view v) before ∙ ap is_some none in
+    let here : find_bad namenodes (map view values) 0 (map view values) ≡ Some (i, view v) = sym from ∙ bad_next namenodes (map view values) values i v lt is ∙ ap (λ (b : Bool). if not b then Some (i, view v) else find_bad namenodes (map view values) (i + 1) (map view (drop (i + 1) values))) bad in
+    ap (λ (o : Option (ℕ × Data)). option_map (λ at. fault 9 at 0) (option_map (λ (p : ℕ × Data). p.0) o)) here
+
+-- more stops are said
+pub stops_more : (values : List Value) (stops : List (NodeNo × ℕ)) (i : ℕ) (v : Value) (stop : NodeNo × ℕ) → i < length values → v ≡ get_or values i v → map view (take i values) ≡ map stop_data stops → view v ≡ stop_data stop → map view (take (i + 1) values) ≡ map stop_data (stops ++ stop ∷ [])
+stops_more values stops i v stop lt is before here =
+    let next : take (i + 1) values ≡ take i values ++ v ∷ [] = take_more values i v lt ∙ ap (λ w. take i values ++ w ∷ []) (sym is) in
+    ap (map view) next ∙ map-append view (take i values) (v ∷ []) ∙ (λ k. before k ++ here k ∷ []) ∙ sym (map-append stop_data stops (stop ∷ []))
+
+-- the value is the array of what is read of it
+pub value_is : (value : Data) (values : List Data) → Some values ≡ option_map values_of (as_array value) → value ≡ row values
+value_is value values found = ap (λ (o : Option Data). unwrap_or o value) (array_there (Some value) values found)
+
+-- the fault of stops in an array
+pub stops_fault_is : (namenodes : ℕ) (value : Data) (values : List Data) → value ≡ row values → option_map (λ at. fault 9 at 0) (bad_stop namenodes values) ≡ stops_fault namenodes value
+stops_fault_is namenodes value values is = sym (ap (stops_fault namenodes) is ∙ ap (λ vs. option_map (λ at. fault 9 at 0) (bad_stop namenodes vs)) (values_of-items_of values))
+
+-- ---- scripts
+
+-- six that are not there stand before the rest
+six : (a b c d e f rest : Option ScriptFault) → first_some (a ∷ b ∷ c ∷ d ∷ e ∷ f ∷ []) ≡ None → (option_or a (option_or b (option_or c (option_or d (option_or e (option_or f rest))))) ≡ rest) × (f ≡ None)
+six (Some x) b c d e f rest h = cc
+six None (Some x) c d e f rest h = cc
+six None None (Some x) d e f rest h = cc
+six None None None (Some x) e f rest h = cc
+six None None None None (Some x) f rest h = cc
+six None None None None None (Some x) rest h = cc
+six None None None None None None rest h = (refl, refl)
+
+-- behind rules 3 to 8 come the stops and the clients
+pub early_rest : (ms : Members) → early_fault ms ≡ None → (members_fault ms ≡ option_or (option_and_then (stops_fault (namenodes_in ms)) (at_key "stops" ms)) (clients_fault ms)) × (may_persist ms ≡ true)
+early_rest ms h =
+    let both = six (unless (has_known_keys ms) (fault 3 0 0)) (unless (has_version ms) (fault 4 0 0)) (unless (has_namenodes ms) (fault 5 0 0)) (unless (may_count "tries" ms) (fault 6 0 0)) (unless (may_count "grace" ms) (fault 7 0 0)) (unless (may_persist ms) (fault 8 0 0))
+    (option_or (option_and_then (stops_fault (namenodes_in ms)) (at_key "stops" ms)) (clients_fault ms)) h in
+    (both.0, unless-none (may_persist ms) (fault 8 0 0) both.1)
+
+-- the fault of the clients is that of the members where the stops have none
+pub clients_later : (ms : Members) (told : ScriptFault) → early_fault ms ≡ None → option_and_then (stops_fault (namenodes_in ms)) (at_key "stops" ms) ≡ None → clients_fault ms ≡ Some told → members_fault ms ≡ Some told
+clients_later ms told early stops clients = (early_rest ms early).0 ∙ (λ i. option_or (stops i) (clients i))
+
+-- the members have no fault where none of their parts has one
+pub joined : (ms : Members) → early_fault ms ≡ None → option_and_then (stops_fault (namenodes_in ms)) (at_key "stops" ms) ≡ None → clients_fault ms ≡ None → members_fault ms ≡ None
+joined ms early stops clients = (early_rest ms early).0 ∙ (λ i. option_or (stops i) (clients i))
+
+-- the members say the script that was read of them
+pub members_read : (ms : Members) (script : Script) → members_fault ms ≡ None
+    → script.namenodes ≡ unwrap_or (option_and_then as_whole (at_key "namenodes" ms)) 0
+    → HasClients ms script.clients → unwrap_or (at_key "stops" ms) (row []) ≡ row (map stop_data script.stops)
+    → script.tries ≡ unwrap_or (option_and_then as_whole (at_key "tries" ms)) 10000
+    → script.grace ≡ unwrap_or (option_and_then as_whole (at_key "grace" ms)) 64
+    → unwrap_or (at_key "persist" ms) (boolean true) ≡ boolean script.persist
+    → Says ms script × IsScript script
+members_read ms script none namenodes clients stops tries grace persist =
+    let other = members_exact ms none in
+    let says = other.3 in
+    let node : script.namenodes ≡ other.0.namenodes = namenodes ∙ ap (λ (o : Option Data). unwrap_or (option_and_then as_whole o) 0) says.namenodes in
+    let said : Says ms script =
+    record {
+      namenodes = says.namenodes ∙ ap (λ n. Some (whole n)) (sym node);
+      clients = clients;
+      stops = stops;
+      tries = count_back (at_key "tries" ms) 10000 script.tries other.0.tries tries says.tries;
+      grace = count_back (at_key "grace" ms) 64 script.grace other.0.grace grace says.grace;
+      persist = persist;
+    } in
+    (said, subst IsScript (one_of_members ms other.0 script says said) other.1)
+  where
+    count_back : (o : Option Data) (default n m : ℕ) → n ≡ unwrap_or (option_and_then as_whole o) default → unwrap_or o (whole default) ≡ whole m → unwrap_or o (whole default) ≡ whole n
+    count_back None default n m is says = ap whole (sym is)
+    count_back (Some value) default n m is says = says ∙ ap whole (sym (is ∙ ap (λ (v : Data). unwrap_or (as_whole v) default) says))
