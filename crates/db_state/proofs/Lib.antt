@@ -1,3 +1,4 @@
 pub mod IdLemmas
+pub mod ListingLemmas
 pub mod PlaceLemmas
 pub mod WalkLemmas

@@ -1,7 +1,7 @@
 -- When what a session has read is still so. This project's own.
 use Rattle.std.specs.Prelude.{◌≡◌, ℕ, ◌<◌, Bool, true, false, ◌==◌, nat_lt, if◌then◌else◌, List, [], ◌∷◌, ◌++◌, map, Option, Some, None, IfSome, option_map}
 use Rattle.std.specs.FinMap as map
-use Rattle.std.specs.List.{list_any, list_all, find, AllByRecursion, IsDistinct}
+use Rattle.std.specs.List.{list_any, list_all, find, AllByRecursion, IsDistinct, filter_map, flat_map}
 use Rattle.hops_base.specs.declared.ids.ClientNo.{ClientNo}
 use Rattle.hops_base.specs.declared.ids.InodeId.{InodeId}
 use Rattle.hops_base.specs.declared.ids.OpId.{OpId}
@@ -17,7 +17,10 @@ use Rattle.inode_table.specs.declared.inode.Inode.{Inode}
 use Rattle.inode_table.specs.declared.inode.Kind.{Kind}
 use Rattle.inode_table.specs.declared.inode.Kind.TheVariants.{Dir, File}
 use Rattle.quota_table.specs.declared.quota.QuotaRow.{QuotaRow}
-use Rattle.row_store.specs.Children.{child_count}
+use Rattle.name_space.specs.declared.entry.FileStatus.{FileStatus}
+use Rattle.name_space.specs.declared.entry.FileStatus.TheVariants as status
+use Rattle.name_space.specs.declared.entry.Listed.{Listed}
+use Rattle.row_store.specs.Children.{child_count, child_names}
 use Rattle.db_state.specs.declared.view.Place.{Place}
 use Rattle.db_state.specs.declared.view.View.{View}
 use Rattle.db_state.specs.State.{root_key}
@@ -109,6 +112,33 @@ pub record SeesQuotas (quotas : Quotas) (locked : List (Key × Mode)) (seen : Li
   pub once : IsDistinct (λ (a b : InodeId × QuotaRow). a.0.0 == b.0.0) seen
   pub rows : (id : InodeId) → option_map (λ (q : InodeId × QuotaRow). q.1) (find (λ (q : InodeId × QuotaRow). q.0.0 == id.0) seen) ≡ (if is_locked locked (key.Quota id) then quota_of quotas id else None)
 
+-- what is told of a row under its name
+abbrev pub status_of_kind : Kind → Inode → FileStatus
+status_of_kind Dir row = status.Dir row.mode row.owner
+status_of_kind File row = status.File row.len row.mode row.owner
+
+abbrev pub listed_row : List ℕ → Inode → Listed
+listed_row name row = record { name = name; status = status_of_kind row.kind row }
+
+-- the rows under a row, as they are listed: in the order of their names
+abbrev pub listed_under : Inodes → InodeId → List Listed
+listed_under inodes id = filter_map (λ (name : List ℕ). option_map (listed_row name) (map.get inodes (key.Inode id name))) (child_names inodes id)
+
+-- the children that a call tells: those of the directory that a `list` names
+abbrev pub children_told : Inodes → Call → List Place → List Listed
+children_told inodes (call.List path) places = flat_map (λ (place : Place). flat_map (λ (row : Inode). listed_under inodes row.id) (own_dir place)) places
+children_told inodes (call.Mkdirs path) places = []
+children_told inodes (call.Create path overwrite) places = []
+children_told inodes (call.Append path) places = []
+children_told inodes (call.Grow path bytes) places = []
+children_told inodes (call.Close path) places = []
+children_told inodes (call.Stat path) places = []
+children_told inodes (call.Delete path recursive) places = []
+children_told inodes (call.Rename source destination) places = []
+children_told inodes (call.Chmod path mode) places = []
+children_told inodes (call.SetQuota path names bytes) places = []
+children_told inodes (call.Usage path) places = []
+
 -- every inode has an id below this one
 abbrev pub IsFree : Inodes → ℕ → Type 0
 IsFree inodes next = (at : Key) (row : Inode) → map.get inodes at ≡ Some row → row.id.0 < next
@@ -118,4 +148,5 @@ pub record IsCurrent (inodes : Inodes) (quota_rows : Quotas) (own : Option OpId)
   pub places : map (λ (place : Place). place.path) view.places.items ≡ places_of call view.places.items
   pub current : AllByRecursion (IsCurrentPlace inodes (plan client call view.places.items) own) view.places.items
   pub quotas : SeesQuotas quota_rows (plan client call view.places.items) view.quotas.items
+  pub children : view.children.items ≡ children_told inodes call view.places.items
   pub next : IsFree inodes view.next.0

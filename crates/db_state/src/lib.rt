@@ -3,13 +3,16 @@
 //! It stands on `inode_table`, `quota_table` and `commit_log`. It promises that a commit takes all its memory before
 //! its first write, so that it either writes its rows and its notes or changes nothing; that the rows and the
 //! book always accord: the rows spell a tree that stands for the namespace to which the history in the book
-//! leads, with the history's ids, and quota rows that count it; and that [`tree_of`] is that namespace. It says
-//! what a view must be to be current; the laws of rows that grow are functions with empty bodies in `laws`.
+//! leads, with the history's ids, and quota rows that count it; that [`tree_of`] is that namespace; and that
+//! [`listing_of`] tells the rows under a row, which are the children of its path. It says what a view must be to
+//! be current; the laws of rows that grow are functions with empty bodies in `laws`.
 #![tactic(auto)]
 
 mod db;
 pub mod laws;
+mod listing;
 mod outcome;
+pub mod row_laws;
 mod rows;
 mod settings;
 mod tables;
@@ -20,6 +23,7 @@ mod view;
 mod writes;
 
 pub use db::Db;
+pub use listing::{listing_of, status_of};
 pub use outcome::Outcome;
 pub use settings::Settings;
 pub use tree::tree_of;

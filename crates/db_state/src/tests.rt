@@ -1,6 +1,6 @@
 //! Worked values, and each call that may want memory, with ample memory.
 
-use crate::{Db, Settings, Writes, tree_of};
+use crate::{Db, Settings, Writes, listing_of, tree_of};
 use commit_log::Note;
 use hops_base::{ClientNo, InodeId, Key, Name, NodeNo, SessionId, StopList, User, UserList};
 use std::alloc::Global;
@@ -63,6 +63,17 @@ fn the_first_tree_is_the_root(rt: HostRuntime) -> Result<(), Fail> {
     let tree = tree_of(alloc, &db)?;
     assert_eq!(rt; tree.len(), 1);
     assert_eq!(rt; tree.get(0).map(|place| place.0.len()), Some(0));
+    Ok(())
+}
+
+#[test]
+fn the_first_root_has_nothing_under_it(rt: HostRuntime) -> Result<(), Fail> {
+    let alloc = rt.alloc();
+    let db = Db::start(alloc, &one_client(alloc)?)?;
+    assert_eq!(rt; listing_of(alloc, &db, InodeId(1))?.len(), 0);
+    let top = listing_of(alloc, &db, InodeId(0))?;
+    assert_eq!(rt; top.len(), 1);
+    assert_eq!(rt; top.get(0).map(|listed| listed.name.text()), Some("root"));
     Ok(())
 }
 

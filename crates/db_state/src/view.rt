@@ -2,6 +2,7 @@
 
 use hops_base::{InodeId, ItemList, Key, Path};
 use inode_table::Inode;
+use name_space::Listing;
 use quota_table::QuotaRow;
 
 /// What was read for one path of a call.
@@ -32,6 +33,9 @@ pub struct View {
     pub places: PlaceList,
     /// The quota rows at the quota keys that the call locks, each once.
     pub quotas: QuotaList,
+    /// What is told of the rows under the directory that a `list` names, by their names. Empty for every other
+    /// call.
+    pub children: Listing,
     /// The next free inode id.
     pub next: InodeId,
 }

@@ -1,5 +1,5 @@
 -- What is answered to a call on the tables of which its view was read.
-use Rattle.std.proofs.Common.{◌≡◌, ℕ, zero, suc, ◌+◌, ◌-◌, ◌≤◌, ◌<◌, ◌^◌, Bool, true, ◌&&◌, nat_le, List, [], ◌∷◌, ◌++◌, length, slice_get, Option, Some, None, IfSome, ap, sym, subst, ◌∙◌, arith, length-append}
+use Rattle.std.proofs.Common.{◌≡◌, ℕ, zero, suc, ◌+◌, ◌-◌, ◌≤◌, ◌<◌, ◌^◌, Bool, true, false, ◌&&◌, nat_le, List, [], ◌∷◌, ◌++◌, length, slice_get, Option, Some, None, IfSome, ap, sym, subst, ◌∙◌, arith, length-append}
 use Rattle.std.proofs.lemmas.Bool.Decides.{nat_tests}
 use Rattle.std.specs.List.{AllByRecursion, list_all, sum_by}
 use Rattle.std.specs.Cmp.{first_so}
@@ -44,15 +44,15 @@ names_good state asked view reads read = ap (list_all (list_all is_name)) read.o
 -- there are at most a thousand
 short_call : (asked : Call) (path : Path) → is_built asked ≡ true → is_valid asked ≡ true → paths_of asked ≡ path ∷ [] → is_short path ≡ true
 short_call (call.Mkdirs own) path small valid one = let same : own ≡ path = cc in subst (λ (p : Path). is_short p ≡ true) same valid
-short_call (call.Create own overwrite) path small valid one = absurd (let bad = small in cc)
+short_call (call.Create own overwrite) path small valid one = let same : own ≡ path = cc in subst (λ (p : Path). is_short p ≡ true) same (valid)
 short_call (call.Append own) path small valid one = absurd (let bad = small in cc)
 short_call (call.Grow own bytes) path small valid one = absurd (let bad = small in cc)
 short_call (call.Close own) path small valid one = absurd (let bad = small in cc)
 short_call (call.Stat own) path small valid one = let same : own ≡ path = cc in subst (λ (p : Path). is_short p ≡ true) same valid
-short_call (call.List own) path small valid one = absurd (let bad = small in cc)
-short_call (call.Delete own recursive) path small valid one = absurd (let bad = small in cc)
+short_call (call.List own) path small valid one = let same : own ≡ path = cc in subst (λ (p : Path). is_short p ≡ true) same (valid)
+short_call (call.Delete own recursive) path small valid one = let same : own ≡ path = cc in subst (λ (p : Path). is_short p ≡ true) same (valid)
 short_call (call.Rename source target) path small valid one = absurd (let bad = small in cc)
-short_call (call.Chmod own mode) path small valid one = absurd (let bad = small in cc)
+short_call (call.Chmod own mode) path small valid one = let same : own ≡ path = cc in subst (λ (p : Path). is_short p ≡ true) same (first_so _ _ valid)
 short_call (call.SetQuota own names bytes) path small valid one = absurd (let bad = small in cc)
 short_call (call.Usage own) path small valid one = absurd (let bad = small in cc)
 
@@ -107,15 +107,16 @@ turned_by old new number asked reads reply told notes writes count is are counte
 
 path_named : (asked : Call) (path : Path) → is_built asked ≡ true → paths_of asked ≡ path ∷ [] → path_of asked ≡ Some path
 path_named (call.Mkdirs own) path small one = cc
-path_named (call.Create own overwrite) path small one = absurd (let bad = small in cc)
+path_named (call.Create own overwrite) path small one = cc
 path_named (call.Append own) path small one = absurd (let bad = small in cc)
 path_named (call.Grow own bytes) path small one = absurd (let bad = small in cc)
 path_named (call.Close own) path small one = absurd (let bad = small in cc)
 path_named (call.Stat own) path small one = cc
-path_named (call.List own) path small one = absurd (let bad = small in cc)
-path_named (call.Delete own recursive) path small one = absurd (let bad = small in cc)
+path_named (call.List own) path small one = cc
+path_named (call.Delete own true) path small one = absurd (let bad = small in cc)
+path_named (call.Delete own false) path small one = cc
 path_named (call.Rename source target) path small one = absurd (let bad = small in cc)
-path_named (call.Chmod own mode) path small one = absurd (let bad = small in cc)
+path_named (call.Chmod own mode) path small one = cc
 path_named (call.SetQuota own names bytes) path small one = absurd (let bad = small in cc)
 path_named (call.Usage own) path small one = absurd (let bad = small in cc)
 

@@ -89,15 +89,15 @@ sees_none quotas locked seen none is = subst (SeesQuotas quotas locked) (sym is)
 -- the one path of a call that is run
 own_path : (asked : Call) (places : List Place) → is_built asked ≡ true → places_of asked places ≡ paths_of asked
 own_path (call.Mkdirs path) places e = refl
-own_path (call.Create path overwrite) places e = cc
+own_path (call.Create path overwrite) places e = refl
 own_path (call.Append path) places e = cc
 own_path (call.Grow path bytes) places e = cc
 own_path (call.Close path) places e = cc
 own_path (call.Stat path) places e = refl
-own_path (call.List path) places e = cc
-own_path (call.Delete path recursive) places e = cc
+own_path (call.List path) places e = refl
+own_path (call.Delete path recursive) places e = refl
 own_path (call.Rename source target) places e = cc
-own_path (call.Chmod path mode) places e = cc
+own_path (call.Chmod path mode) places e = refl
 own_path (call.SetQuota path names bytes) places e = cc
 own_path (call.Usage path) places e = cc
 
@@ -118,6 +118,7 @@ view_current state client asked view reads kept limitless runnable read =
     record {
       places = ap (list_map (λ (place : Place). place.path)) read.only ∙ ap (λ (p : Path). p ∷ []) read.read.of ∙ sym read.one ∙ sym (own_path asked view.places.items runnable);
       current = subst (AllByRecursion (IsCurrentPlace state.inodes locked None)) (sym read.only) (place_current state.inodes locked read.path read.place reads kept.flags read.read, tt);
+      children = read.children;
       quotas = sees_none state.quotas locked view.quotas.items (no_quota state kept limitless) read.none;
       next = λ at row there. let range = kept.tree.range at row there in subst (λ (n : ℕ). row.id.0 < n) (sym read.next) range.1;
     }

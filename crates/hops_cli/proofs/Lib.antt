@@ -4,6 +4,7 @@ pub mod CurrentLemmas
 pub mod LimitLemmas
 pub mod LoopLemmas
 pub mod ReadingLemmas
+pub mod ReportLemmas
 pub mod RunLemmas
 pub mod Transfers
 pub mod TurnLemmas

@@ -90,3 +90,9 @@ turned users calls count old new lines after asked end within is so_far turn pus
 -- a client of a script has no more calls than that
 pub few_calls : (one : ClientCalls) → is_client one ≡ true → length one.calls ≤ 65536
 few_calls one valid = let few : nat_le (length one.calls) most_calls ≡ true = second_so _ _ (first_so _ _ valid) in grind (arith, nat_tests)
+
+-- what all calls pass, each of them does
+pub passes_at : (test : Call → Bool) (calls : List Call) (i : ℕ) (one : Call) → list_all test calls ≡ true → i < length calls → get_or calls i one ≡ one → test one ≡ true
+passes_at test [] i one all within is = absurd (omega arith)
+passes_at test (c ∷ calls) zero one all within is = subst (λ (x : Call). test x ≡ true) is (first_so _ _ all)
+passes_at test (c ∷ calls) (suc i) one all within is = passes_at test calls i one (second_so _ _ all) (omega arith) is

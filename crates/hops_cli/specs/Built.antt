@@ -6,18 +6,18 @@ use Rattle.name_space.specs.declared.call.Call.{Call}
 use Rattle.name_space.specs.declared.call.Call.TheVariants as call
 use Rattle.name_space.specs.Script.{ClientCalls, Script}
 
--- the call is of a kind that is built
+-- the call is of a kind that is built; a delete that may go below a directory is of a kind of its own
 abbrev pub is_built : Call → Bool
 is_built (call.Mkdirs path) = true
 is_built (call.Stat path) = true
-is_built (call.Create path overwrite) = false
+is_built (call.Create path overwrite) = true
 is_built (call.Append path) = false
 is_built (call.Grow path bytes) = false
 is_built (call.Close path) = false
-is_built (call.List path) = false
-is_built (call.Delete path recursive) = false
+is_built (call.List path) = true
+is_built (call.Delete path recursive) = not recursive
 is_built (call.Rename source target) = false
-is_built (call.Chmod path mode) = false
+is_built (call.Chmod path mode) = true
 is_built (call.SetQuota path names bytes) = false
 is_built (call.Usage path) = false
 

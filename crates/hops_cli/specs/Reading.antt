@@ -13,7 +13,7 @@ use Rattle.db_state.specs.declared.view.Place.{Place}
 use Rattle.db_state.specs.declared.view.View.{View}
 use Rattle.db_state.specs.State.{Inodes, State}
 use Rattle.db_state.specs.Plan.{last}
-use Rattle.db_state.specs.Current.{Leads, SpellsPlace, IsMissing, KnowsChild}
+use Rattle.db_state.specs.Current.{children_told, Leads, SpellsPlace, IsMissing, KnowsChild}
 
 -- the row that was found is the table's
 abbrev pub IsFound : Inodes → Key × Inode → Type 0
@@ -44,7 +44,8 @@ pub record IsPlaceOf (inodes : Inodes) (path : Path) (place : Place) (reads : �
   pub child : KnowsChild inodes place
   pub counted : reads + 1 ≡ length place.found.items + length (option_to_list place.missing)
 
--- the view is what the rows have for the one path of the call, without quota rows
+-- the view is what the rows have for the one path of the call, with the children that a `list` tells and without quota
+-- rows
 pub record IsViewAt (state : State) (call : Call) (view : View) (reads : ℕ) : Type 0 where
   pub path : Path
   pub place : Place
@@ -52,4 +53,5 @@ pub record IsViewAt (state : State) (call : Call) (view : View) (reads : ℕ) : 
   pub only : view.places.items ≡ place ∷ []
   pub read : IsPlaceOf state.inodes path place reads
   pub none : view.quotas.items ≡ []
+  pub children : view.children.items ≡ children_told state.inodes call view.places.items
   pub next : view.next.0 ≡ state.next

@@ -1,6 +1,6 @@
 -- What the report of a run tells. This project's own.
 use Rattle.std.specs.Prelude.{◌≡◌, ℕ, List, [], ◌∷◌, map, Option, Some, None}
-use Rattle.name_space.specs.Namespace.{Namespace, opening}
+use Rattle.name_space.specs.Namespace.{Namespace, IsNamespace, opening}
 use Rattle.name_space.specs.Calls.{as_read, replies_of, space_after}
 use Rattle.name_space.specs.Script.{Script, ClientCalls}
 use Rattle.name_space.specs.declared.reply.Reply.{Reply}
@@ -27,11 +27,12 @@ IsPlainRun (one ∷ []) lines tree =
     (map (λ (line : AnswerLine). reply_in line.end) lines ≡ map Some (replies_of opening (client 0) one.user one.calls)) × (tree ≡ space_after opening (client 0) one.user one.calls)
 IsPlainRun (one ∷ other ∷ more) lines tree = ⊥
 
--- the book, the answers and the tree of a script's run: they tell one legal history of it, whose replies and last
--- namespace are those of the plain calls
+-- the book, the answers and the tree of a script's run: they tell one legal history of it, which leads to a namespace,
+-- and the replies and that namespace are those of the plain calls
 pub record IsRun (script : Script) (notes : List Note) (lines : List AnswerLine) (tree : Namespace) : Type 0 where
   pub told : Told script notes lines tree
   pub kept : KeptWithoutLocks script notes lines
+  pub names : IsNamespace tree
   pub plain : IsPlainRun script.clients lines tree
 
 -- the text is the report of a run of the script, and nothing else

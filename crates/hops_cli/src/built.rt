@@ -46,15 +46,17 @@ fn is_built(call: &Call) -> bool
     ensures { result ≡ is_built call.now }
 {
     match call {
-        Call::Mkdirs(_) | Call::Stat(_) => true,
-        Call::Create(..)
-        | Call::Append(_)
+        Call::Mkdirs(_)
+        | Call::Create(..)
+        | Call::Stat(_)
+        | Call::List(_)
+        | Call::Chmod(..)
+        | Call::Delete(_, false) => true,
+        Call::Append(_)
         | Call::Grow(..)
         | Call::Close(_)
-        | Call::List(_)
-        | Call::Delete(..)
+        | Call::Delete(_, true)
         | Call::Rename(..)
-        | Call::Chmod(..)
         | Call::SetQuota(..)
         | Call::Usage(_) => false,
     }

@@ -15,7 +15,7 @@ use db_state::{Db, Outcome, Settings, tree_of};
 use hops_base::{ClientNo, NoMemory, NodeNo, SessionId, StopList, User, UserList};
 use inode_ops::outcome;
 use name_space::{Call, laws};
-use report_text::TreeList;
+use report_text::{AnswerList, TreeList};
 use script_text::{ClientCalls, Script};
 use std::alloc::Global;
 
@@ -30,7 +30,7 @@ pub struct Ran {
     /// All that happened.
     pub book: Book,
     /// What was answered, by client and call.
-    pub answers: Vec<AnswerLine>,
+    pub answers: AnswerList,
     /// The last namespace in path order, `/` first.
     pub tree: TreeList,
 }
@@ -42,7 +42,7 @@ pub fn run(alloc: Global, script: &Script) -> Result<Ran, NoMemory>
 {
     let settings = settings_of(alloc, script)?;
     let mut db = Db::start(alloc, &settings)?;
-    let mut answers = Vec::new(alloc);
+    let mut answers = AnswerList::new(alloc);
     run_clients(alloc, &mut db, script.clients(), &mut answers)?;
     db.accord();
     let tree = tree_of(alloc, &db)?;
@@ -76,7 +76,7 @@ fn run_clients(
     alloc: Global,
     db: &mut Db,
     clients: &[ClientCalls],
-    answers: &mut Vec<AnswerLine>,
+    answers: &mut AnswerList,
 ) -> Result<(), NoMemory>
     requires few { length clients.now ≤ 1 }
     requires small { list_all is_built_client clients.now ≡ true }
@@ -95,7 +95,7 @@ fn run_client(
     alloc: Global,
     db: &mut Db,
     client: &ClientCalls,
-    answers: &mut Vec<AnswerLine>,
+    answers: &mut AnswerList,
 ) -> Result<(), NoMemory>
     requires small { is_built_client client.now ≡ true }
     requires valid { is_client client.now ≡ true }
@@ -105,11 +105,12 @@ fn run_client(
     for (i, call) in client.calls().iter().enumerate() {
         let number = i as u32 + 1;
         let end = run_call(alloc, db, number, client.user(), call)?;
+        answers.reserve(1)?;
         answers.push(AnswerLine {
             client: CLIENT,
             call: number,
             end,
-        })?;
+        });
     }
     Ok(())
 }

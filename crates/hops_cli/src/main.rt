@@ -29,7 +29,7 @@ mod words;
 use built::unbuilt;
 use give_out::{GivenOut, give_all};
 use hops_base::{NoMemory, Sink, Source};
-use report_text::report_of;
+use report_text::{Report, write_report};
 use script_text::{Script, ScriptError, generate, read_script, write_script};
 pub use status::Status;
 use std::alloc::Global;
@@ -81,7 +81,7 @@ pub fn run_script<S: Source, W: Sink>(alloc: Global, source: &mut S, sink: &mut 
     if let Some((client, call)) = unbuilt(&script) {
         return Status::Unbuilt { client, call };
     }
-    let Ok(text) = run_report(alloc, &script) else {
+    let Ok(text) = run_report(alloc, script) else {
         return Status::NoMemory;
     };
     match give_all(sink, &text) {
@@ -129,12 +129,13 @@ fn generated_text(alloc: Global, seed: u32, clients: u32, calls: u32) -> Result<
 }
 
 // The report of the run of the script.
-fn run_report(alloc: Global, script: &Script) -> Result<Vec<u8>, NoMemory>
-    requires { IsBuilt script.now }
-    ensures { IfOk result (λ text. IsReportOf script.now text.items) }
+fn run_report(alloc: Global, script: Script) -> Result<Vec<u8>, NoMemory>
+    requires { IsBuilt script }
+    ensures { IfOk result (λ text. IsReportOf script text.items) }
 {
-    let ran = engine::run(alloc, script)?;
-    report_of(alloc, script, &ran.book, &ran.answers, ran.tree.as_slice())
+    let ran = engine::run(alloc, &script)?;
+    let report = Report::new(script, ran.book, ran.answers, ran.tree);
+    write_report(alloc, &report)
 }
 
 fn main(rt: HostRuntime) -> ExitCode {

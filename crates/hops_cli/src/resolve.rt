@@ -1,37 +1,83 @@
 //! Paths, read name by name.
 
-ghost use Rattle.std.specs.Prelude.{◌≡◌, ◌+◌, ◌≤◌, ◌<◌, ◌^◌, [], ◌∷◌, true, length, IfOk, OnOk};
+ghost use Rattle.std.specs.Prelude.{◌≡◌, ◌+◌, ◌≤◌, ◌<◌, ◌^◌, [], ◌∷◌, true, length, option_copied, option_to_list, IfOk};
 ghost use Rattle.db_state.specs.State.{root_key, root_row};
-ghost use Rattle.name_space.specs.Call.{is_valid};
+ghost use Rattle.db_state.specs.Plan.{own_dir};
+ghost use Rattle.db_state.specs.Current.{children_told};
+ghost use Rattle.name_space.specs.Call.{is_valid, paths_of};
 ghost use Rattle.hops_cli.specs.Built.{is_built};
 ghost use Rattle.hops_cli.specs.Reading.{IsRead, IsPlaceOf, IsViewAt, IsLastsChild};
 
-use db_state::{Db, FoundList, Place, PlaceList, QuotaList, View};
+use db_state::{Db, FoundList, Place, PlaceList, QuotaList, View, listing_of};
 use hops_base::{ItemList, Key, Name, NoMemory, Path};
 use inode_table::{Inode, Kind};
-use name_space::Call;
+use name_space::{Call, Listing};
 use std::alloc::Global;
 
-/// What a call reads of the tables, and how many rows it read for that. No call that is built makes quota
-/// rows, so none are read.
+/// What a call reads of the tables, and how many rows it read to resolve its path. No call that is built makes
+/// quota rows, so none are read.
 pub fn view_of(alloc: Global, db: &Db, call: &Call) -> Result<(View, u64), NoMemory>
     requires small { is_built call.now ≡ true }
     requires valid { is_valid call.now ≡ true }
     ensures { IfOk result (λ viewed. IsViewAt db.now call.now viewed.0 viewed.1) }
 {
-    let (place, reads) = match call {
-        Call::Mkdirs(path) | Call::Stat(path) => resolve(alloc, db, path)?,
-        _ => unreachable!(),
-    };
+    let (place, reads) = resolve(alloc, db, path_of(call))?;
+    let children = children_of(alloc, db, call, &place)?;
     let mut places: PlaceList = ItemList::new(alloc);
     places.reserve(1)?;
     places.push(place);
     let view = View {
         places,
         quotas: QuotaList::new(alloc),
+        children,
         next: db.next(),
     };
     Ok((view, reads))
+}
+
+// The one path of the call.
+fn path_of(call: &Call) -> &Path
+    requires small { is_built call.now ≡ true }
+    requires valid { is_valid call.now ≡ true }
+    ensures path { paths_of call.now ≡ result.now ∷ [] }
+    ensures short { length result.now ≤ 1000 }
+{
+    match call {
+        Call::Mkdirs(path)
+        | Call::Create(path, _)
+        | Call::Stat(path)
+        | Call::List(path)
+        | Call::Delete(path, _)
+        | Call::Chmod(path, _) => path,
+        _ => unreachable!(),
+    }
+}
+
+// The children that a `list` tells, where its path was found whole and is a directory.
+fn children_of(alloc: Global, db: &Db, call: &Call, place: &Place) -> Result<Listing, NoMemory>
+    requires { is_built call.now ≡ true }
+    ensures { IfOk result (λ children. children.items ≡ children_told db.now.inodes call.now (place.now ∷ [])) }
+{
+    let Call::List(_) = call else {
+        return Ok(Listing::new(alloc));
+    };
+    match own_dir(place) {
+        Some(row) => listing_of(alloc, db, row.id),
+        None => Ok(Listing::new(alloc)),
+    }
+}
+
+// The path's own row, where it is a directory's.
+fn own_dir(place: &Place) -> Option<&Inode>
+    ensures { option_to_list (option_copied result) ≡ own_dir place.now }
+{
+    if place.found.len() <= place.path.len() {
+        return None;
+    }
+    match place.found.as_slice().last() {
+        Some((_, row)) if row.kind == Kind::Dir => Some(row),
+        _ => None,
+    }
 }
 
 // Reads the rows of the path from the root's on, which needs no read, up to the end of the path, its first

@@ -1,7 +1,7 @@
 use super::*;
 use crate::vectors::{
-    ESCAPES, ESCAPES_REPORT, FIRST_SCRIPT, FIRST_SCRIPT_REPORT, ROOT_AND_MISSING,
-    ROOT_AND_MISSING_REPORT, SIBLINGS, SIBLINGS_REPORT,
+    ESCAPES, ESCAPES_REPORT, FILES_AND_REFUSALS, FILES_AND_REFUSALS_REPORT, FIRST_SCRIPT,
+    FIRST_SCRIPT_REPORT, ROOT_AND_MISSING, ROOT_AND_MISSING_REPORT, SIBLINGS, SIBLINGS_REPORT,
 };
 use hops_base::{MemSink, MemSource, SteadySink, SteadySource};
 use script_text::ScriptFault;
@@ -157,6 +157,10 @@ fn what_is_not_built(rt: HostRuntime) -> Result<(), Fail> {
     let alloc = rt.alloc();
     for (script, call) in [
         (
+            "{\"version\":1,\"namenodes\":1,\"clients\":[{\"user\":\"ann\",\"calls\":[[\"delete\",\"/no\",true]]}]}",
+            1,
+        ),
+        (
             "{\"version\":1,\"namenodes\":1,\"clients\":[{\"user\":\"ann\",\"calls\":[[\"mkdirs\",\"/a/b\"],[\"append\",\"/a\"]]}]}",
             2,
         ),
@@ -289,10 +293,85 @@ fn scripts_with_calls(rt: HostRuntime) -> Result<(), Fail> {
         (ROOT_AND_MISSING, ROOT_AND_MISSING_REPORT),
         (SIBLINGS, SIBLINGS_REPORT),
         (ESCAPES, ESCAPES_REPORT),
+        (FILES_AND_REFUSALS, FILES_AND_REFUSALS_REPORT),
     ] {
         let (status, sink) = ran(rt.alloc(), script.as_bytes())?;
         assert_eq!(rt; status, Status::Done);
         assert_eq!(rt; sink.written(), report.as_bytes(), "of {script}");
+    }
+    Ok(())
+}
+
+// Whether the last of two calls of one client is answered this.
+fn second_is_answered(alloc: Global, calls: &str, reply: &str) -> Result<bool, Fail> {
+    let script = format!(in alloc;
+        "{{\"version\":1,\"namenodes\":1,\"clients\":[{{\"user\":\"ann\",\"calls\":{calls}}}]}}"
+    )?;
+    let line = format!(in alloc; "[\"answer\",0,2,\"done\",3,{reply}]\n")?;
+    let (status, sink) = ran(alloc, script.as_bytes())?;
+    let report = str::from_utf8(sink.written()).map_err(|_| "no text")?;
+    Ok(status == Status::Done && report.contains(line.as_str()))
+}
+
+#[test]
+fn refusals_of_create_and_list(rt: HostRuntime) -> Result<(), Fail> {
+    for (calls, reply) in [
+        (
+            "[[\"mkdirs\",\"/d\"],[\"create\",\"/d\",true]]",
+            "{\"refused\":\"FileAlreadyExists\"}",
+        ),
+        (
+            "[[\"create\",\"/f\",false],[\"create\",\"/f\",false]]",
+            "{\"refused\":\"FileAlreadyExists\"}",
+        ),
+        (
+            "[[\"create\",\"/f\",false],[\"create\",\"/f/x\",true]]",
+            "{\"refused\":\"ParentNotDirectory\"}",
+        ),
+        (
+            "[[\"create\",\"/f\",false],[\"create\",\"/f\",true]]",
+            "true",
+        ),
+        (
+            "[[\"create\",\"/f\",false],[\"list\",\"/f/x\"]]",
+            "{\"refused\":\"FileNotFound\"}",
+        ),
+        (
+            "[[\"mkdirs\",\"/d\"],[\"list\",\"/d\"]]",
+            "{\"entries\":[]}",
+        ),
+    ] {
+        assert!(rt; second_is_answered(rt.alloc(), calls, reply)?, "{calls}");
+    }
+    Ok(())
+}
+
+#[test]
+fn refusals_of_delete_and_chmod(rt: HostRuntime) -> Result<(), Fail> {
+    for (calls, reply) in [
+        ("[[\"mkdirs\",\"/d\"],[\"delete\",\"/\",false]]", "false"),
+        (
+            "[[\"mkdirs\",\"/d/e\"],[\"delete\",\"/d\",false]]",
+            "{\"refused\":\"PathIsNotEmptyDirectory\"}",
+        ),
+        (
+            "[[\"mkdirs\",\"/d/e\"],[\"delete\",\"/d/e/f\",false]]",
+            "false",
+        ),
+        (
+            "[[\"create\",\"/d/f\",false],[\"delete\",\"/d/f\",false]]",
+            "true",
+        ),
+        (
+            "[[\"mkdirs\",\"/d\"],[\"chmod\",\"/\",511]]",
+            "{\"refused\":\"IO\",\"why\":\"RootFixed\"}",
+        ),
+        (
+            "[[\"create\",\"/f\",false],[\"chmod\",\"/f/x\",1]]",
+            "{\"refused\":\"FileNotFound\"}",
+        ),
+    ] {
+        assert!(rt; second_is_answered(rt.alloc(), calls, reply)?, "{calls}");
     }
     Ok(())
 }

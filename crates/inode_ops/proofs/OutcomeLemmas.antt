@@ -74,14 +74,14 @@ set_of tables bound space own client asked view place one before =
 
 -- ---- what is locked
 
-locked_in : (mode : Mode) (ks : List Key) (k : Key) → is_locked (in_mode mode ks) k ≡ list_any (same_key k) ks
+pub locked_in : (mode : Mode) (ks : List Key) (k : Key) → is_locked (in_mode mode ks) k ≡ list_any (same_key k) ks
 locked_in mode [] k = refl
 locked_in mode (x ∷ ks) k = ap (λ (b : Bool). same_key k x || b) (locked_in mode ks k)
 
-locked_more : (a b : List (Key × Mode)) (k : Key) → is_locked a k ≡ true → is_locked (a ++ b) k ≡ true
+pub locked_more : (a b : List (Key × Mode)) (k : Key) → is_locked a k ≡ true → is_locked (a ++ b) k ≡ true
 locked_more a b k e = list_any-append (λ (l : Key × Mode). same_key k l.0) a b ∙ or_left (is_locked a k) (is_locked b k) e
 
-among_third : (a b c : List Key) (k : Key) → list_any (same_key k) c ≡ true → list_any (same_key k) (a ++ b ++ c) ≡ true
+pub among_third : (a b c : List Key) (k : Key) → list_any (same_key k) c ≡ true → list_any (same_key k) (a ++ b ++ c) ≡ true
 among_third a b c k e =
     list_any-append (same_key k) (a ++ b) c ∙ or_right (list_any (same_key k) (a ++ b)) (list_any (same_key k) c) e
 
@@ -105,26 +105,26 @@ stat_locks client path place last is =
 
 -- ---- `mkdirs`
 
-file_of : (kind : Kind) (row : Inode) (quota : Option QuotaRow) → kind ≡ File → is_file (Some (entry_of_kind kind row quota)) ≡ true
+pub file_of : (kind : Kind) (row : Inode) (quota : Option QuotaRow) → kind ≡ File → is_file (Some (entry_of_kind kind row quota)) ≡ true
 file_of File row quota e = refl
 file_of Dir row quota e = absurd (let bad = e in cc)
 
-dir_of : (kind : Kind) (row : Inode) (quota : Option QuotaRow) → kind ≡ Dir → is_file (Some (entry_of_kind kind row quota)) ≡ false
+pub dir_of : (kind : Kind) (row : Inode) (quota : Option QuotaRow) → kind ≡ Dir → is_file (Some (entry_of_kind kind row quota)) ≡ false
 dir_of Dir row quota e = refl
 dir_of File row quota e = absurd (let bad = e in cc)
 
 module _ (tables : Tables) (bound : ℕ) (space : Namespace) (client : ClientNo) (user : List ℕ) (view : View) (place : Place) (locked : List (Key × Mode)) (set : IsSet tables view.next.0 space locked view.quotas.items place) where
-  row_kind : (kind : Kind) → set.walk.down.bottom.1.kind ≡ kind → set.walk.down.at.there.row.kind ≡ kind
+  pub row_kind : (kind : Kind) → set.walk.down.bottom.1.kind ≡ kind → set.walk.down.at.there.row.kind ≡ kind
   row_kind kind is = set.walk.down.at.there.kind ∙ is
 
   -- what stands at a path that was found whole
-  whole_entry : is_whole place ≡ true → entry_at space place.path ≡ Some (entry_of tables.quotas set.walk.down.at.there.row)
+  pub whole_entry : is_whole place ≡ true → entry_at space place.path ≡ Some (entry_of tables.quotas set.walk.down.at.there.row)
   whole_entry whole =
       ap (entry_at space) (sym (path_is tables view.next.0 space locked view.quotas.items place set) ∙ ap (λ (p : List (List ℕ)). reverse set.walk.down.dir ++ p) (whole_rest tables view.next.0 space locked view.quotas.items place set whole) ∙ append-nil (reverse set.walk.down.dir))
       ∙ entry_bottom tables view.next.0 space locked view.quotas.items place set
 
   -- nothing stands at any other
-  partial_entry : is_whole place ≡ false → entry_at space place.path ≡ None
+  pub partial_entry : is_whole place ≡ false → entry_at space place.path ≡ None
   partial_entry part =
       let rest = partial_rest tables view.next.0 space locked view.quotas.items place set part in
       let first : entry_at space (reverse set.walk.down.dir ++ rest.0 ∷ []) ≡ None = subst (λ (names : List (List ℕ)). IfSome (slice_get names 0) (λ (name : List ℕ). entry_at space (reverse set.walk.down.dir ++ name ∷ []) ≡ None)) rest.2 (missing_entry tables view.next.0 space locked view.quotas.items place set) in
@@ -172,7 +172,7 @@ module _ (tables : Tables) (bound : ℕ) (space : Namespace) (client : ClientNo)
       ∙ ap (λ (ps : List Path). unless (first_full place.path place.found.items view.quotas.items (length (missing_names place))) space (granted (with_dirs space user ps))) (sym (missing_is tables view.next.0 space locked view.quotas.items place set))
 
   -- an answer that changes nothing
-  kept : (asked : Call) (reply said : Reply) (writes : List (Key × Option Row)) → Rattle.commit_log.specs.Ids.move_of space space asked ≡ None → Rattle.name_space.specs.Calls.plain space client user asked ≡ told said space → Rattle.name_space.specs.Calls.as_read reply ≡ said → writes ≡ [] → IsAnswer tables space client user asked view reply writes
+  pub kept : (asked : Call) (reply said : Reply) (writes : List (Key × Option Row)) → Rattle.commit_log.specs.Ids.move_of space space asked ≡ None → Rattle.name_space.specs.Calls.plain space client user asked ≡ told said space → Rattle.name_space.specs.Calls.as_read reply ≡ said → writes ≡ [] → IsAnswer tables space client user asked view reply writes
   kept asked reply said writes still answer reads none = unchanged tables bound space client user asked view reply said writes set.tree set.names set.stands set.counts still answer reads none
 
   -- what `mkdirs` answers below a directory
@@ -254,7 +254,7 @@ stat_outcome view client user place one spells (Subtree of) answers =
     no_stat_subtree (is_whole place) last.0 of (subst (λ (o : Option Inode). IfSome o (λ last. StatOf (is_whole place) last (Subtree of))) last.1 answers)
 
 -- what a view has for a call of this path
-view_has : (view : View) (asked : Call) (place : Place) (path : List (List ℕ)) → IsViewOf view asked → slice_get view.places.items 0 ≡ Some place → path_of asked ≡ Some path → (view.places.items ≡ place ∷ []) × (place.path ≡ path) × SpellsPlace place
+pub view_has : (view : View) (asked : Call) (place : Place) (path : List (List ℕ)) → IsViewOf view asked → slice_get view.places.items 0 ≡ Some place → path_of asked ≡ Some path → (view.places.items ≡ place ∷ []) × (place.path ≡ path) × SpellsPlace place
 view_has view asked place path is first named =
     let of = subst (λ (o : Option Place). IfSome o (λ place. (path_of asked ≡ Some place.path) × CanMake place view.quotas.items view.next.0)) first is.place in
     (one_item view.places.items place is.only first, (let same : Some place.path ≡ Some path = sym of.0 ∙ named in cc), of.1.spells)

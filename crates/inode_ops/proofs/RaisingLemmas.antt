@@ -25,7 +25,7 @@ pub any_key : (k : Key) (ws : List (Key × Option Row)) → list_any (λ (w : Ke
 any_key k [] = refl
 any_key k (w ∷ ws) = ap (λ (b : Bool). same_key k w.0 || b) (any_key k ws)
 
-keys_append : (ws vs : List (Key × Option Row)) → keys_of (ws ++ vs) ≡ keys_of ws ++ keys_of vs
+pub keys_append : (ws vs : List (Key × Option Row)) → keys_of (ws ++ vs) ≡ keys_of ws ++ keys_of vs
 keys_append [] vs = refl
 keys_append (w ∷ ws) vs = ap (λ (ks : List Key). w.0 ∷ ks) (keys_append ws vs)
 
@@ -58,7 +58,7 @@ raising_none rows quotas names first writes is room = record {
 }
 
 -- ids of the first rows are ids of one row more
-has_more : (rows : List (Key × Inode)) (r : Key × Inode) (id : InodeId) → has_id (rows ++ r ∷ []) id ≡ has_id rows id || (r.1.id.0 == id.0 || false)
+pub has_more : (rows : List (Key × Inode)) (r : Key × Inode) (id : InodeId) → has_id (rows ++ r ∷ []) id ≡ has_id rows id || (r.1.id.0 == id.0 || false)
 has_more rows r id = list_any-append (λ (x : Key × Inode). x.1.id.0 == id.0) rows (r ∷ [])
 
 each_more : (rows : List (Key × Inode)) (r : Key × Inode) (quotas : List (InodeId × QuotaRow)) (names : ℕ) (writes : List (Key × Option Row)) → AllByRecursion (IsRaisedRow rows quotas names) writes → AllByRecursion (IsRaisedRow (rows ++ r ∷ []) quotas names) writes

@@ -64,11 +64,11 @@ tree_at inodes bound next tree free = record {
 
 -- ---- nothing changes
 
-or_none : (b : Bool) → b ≡ (b || false)
+pub or_none : (b : Bool) → b ≡ (b || false)
 or_none true = refl
 or_none false = refl
 
-or_true : (b c : Bool) → b ≡ true → b ≡ (b || c)
+pub or_true : (b c : Bool) → b ≡ true → b ≡ (b || c)
 or_true true c e = refl
 or_true false c e = absurd (true≢false (sym e))
 
@@ -115,12 +115,12 @@ pub long_below : (path : Path) (names : List (List ℕ)) → length (paths_below
 long_below path [] = refl
 long_below path (name ∷ names) = ap suc (long_below (path ++ name ∷ []) names)
 
-unremoved : (paths : List Path) → Unremoved [] paths
+pub unremoved : (paths : List Path) → Unremoved [] paths
 unremoved [] = tt
 unremoved (path ∷ paths) = (refl, unremoved paths)
 
 -- new paths have ids, and so has what had one
-all_new : (paths : List Path) (numbering : Numbering) (q : Path) → is_some (id_at (with_new numbering paths) q) ≡ (is_among paths q || is_some (id_at numbering q))
+pub all_new : (paths : List Path) (numbering : Numbering) (q : Path) → is_some (id_at (with_new numbering paths) q) ≡ (is_among paths q || is_some (id_at numbering q))
 all_new [] numbering q = refl
 all_new (path ∷ paths) numbering q =
     all_new paths (record { ids = entries.put path_cmp path numbering.next numbering.ids; next = numbering.next + 1 }) q

@@ -1,3 +1,7 @@
+pub mod ChmodSteps
+pub mod CreateSteps
+pub mod DeleteSteps
+pub mod LowerSteps
 pub mod Outcomes
 pub mod Steps
 pub mod Table

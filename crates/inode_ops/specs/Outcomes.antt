@@ -1,5 +1,5 @@
 -- What the calls on inodes need of their view.
-use Rattle.std.specs.Prelude.{◌≡◌, ℕ, ◌+◌, ◌^◌, ◌<◌, List, length, slice_get, Option, Some, None, IfSome}
+use Rattle.std.specs.Prelude.{◌≡◌, ℕ, ◌+◌, ◌^◌, ◌<◌, List, length, slice_get, if◌then◌else◌, Option, Some, None, IfSome}
 use Rattle.std.specs.List.{AllByRecursion}
 use Rattle.hops_base.specs.declared.ids.InodeId.{InodeId}
 use Rattle.name_space.specs.declared.call.Call.{Call}
@@ -21,18 +21,18 @@ pub record CanMake (place : Place) (quotas : List (InodeId × QuotaRow)) (next :
   pub ids : next + length place.path < 2 ^ 64
   pub raise : CanRaise (length place.path) quotas
 
--- the path of a call on inodes
+-- the path of a call on inodes; a delete that goes below a directory is none
 abbrev pub path_of : Call → Option (List (List ℕ))
 path_of (call.Mkdirs path) = Some path
 path_of (call.Stat path) = Some path
-path_of (call.Create path overwrite) = None
+path_of (call.Create path overwrite) = Some path
 path_of (call.Append path) = None
 path_of (call.Grow path bytes) = None
 path_of (call.Close path) = None
-path_of (call.List path) = None
-path_of (call.Delete path recursive) = None
+path_of (call.List path) = Some path
+path_of (call.Delete path recursive) = if recursive then None else Some path
 path_of (call.Rename source target) = None
-path_of (call.Chmod path mode) = None
+path_of (call.Chmod path mode) = Some path
 path_of (call.SetQuota path names bytes) = None
 path_of (call.Usage path) = None
 

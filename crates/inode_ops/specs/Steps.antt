@@ -21,6 +21,7 @@ use Rattle.name_space.specs.declared.reply.Exception.{Exception}
 use Rattle.name_space.specs.declared.reply.Exception.TheVariants.{FileNotFound, FileAlreadyExists, ParentNotDirectory, NSQuotaExceeded, DSQuotaExceeded}
 use Rattle.name_space.specs.Namespace.{Path, above}
 use Rattle.name_space.specs.Quota.{first_some, refused_over}
+pub use Rattle.db_state.specs.Current.{status_of_kind}
 use Rattle.db_state.specs.declared.view.Place.{Place}
 use Rattle.db_state.specs.declared.outcome.Outcome.{Outcome}
 use Rattle.db_state.specs.declared.outcome.Outcome.TheVariants.{Answer, Subtree}
@@ -93,10 +94,6 @@ GoesOnRaised first rows quotas names writes = (more : List (Key × Option Row)) 
 -- ---- outcomes
 
 -- what is told of a row
-abbrev pub status_of_kind : Kind → Inode → FileStatus
-status_of_kind Dir inode = status.Dir inode.mode inode.owner
-status_of_kind File inode = status.File inode.len inode.mode inode.owner
-
 abbrev pub status_of : Inode → FileStatus
 status_of inode = status_of_kind inode.kind inode
 

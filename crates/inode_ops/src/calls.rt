@@ -4,7 +4,11 @@ ghost use Rattle.std.specs.Prelude.{IfOk};
 ghost use Rattle.inode_ops.specs.Outcomes.{IsViewOf};
 ghost use Rattle.inode_ops.specs.Table.{IsCallsTable};
 
+use crate::chmod::chmod;
+use crate::create::create;
+use crate::delete::delete;
 use crate::directories::mkdirs;
+use crate::list::list;
 use crate::status::stat;
 use db_state::{Outcome, View};
 use hops_base::{ClientNo, NoMemory, User};
@@ -17,17 +21,21 @@ use std::alloc::Global;
 pub fn outcome(
     alloc: Global,
     view: &View,
-    _client: ClientNo,
+    client: ClientNo,
     user: &User,
     call: &Call,
 ) -> Result<Outcome, NoMemory>
     requires { IsViewOf view.now call.now }
-    ensures { IfOk result (IsCallsTable view.now _client user.now call.now) }
+    ensures { IfOk result (IsCallsTable view.now client user.now call.now) }
 {
     let Some(place) = view.places.get(0) else {
         unreachable!()
     };
     match call {
+        Call::Create(path, overwrite) => create(alloc, view, client, user, path, *overwrite),
+        Call::List(path) => list(alloc, view, path),
+        Call::Delete(path, _) => delete(alloc, view, path),
+        Call::Chmod(path, mode) => chmod(alloc, view, path, *mode),
         Call::Mkdirs(_) => mkdirs(alloc, place, view.quotas.as_slice(), view.next, user),
         Call::Stat(_) => stat(alloc, place),
         _ => unreachable!(),

@@ -62,20 +62,22 @@ fn make_missing(
     Ok(Outcome::Answer(Reply::Truth(true), writes))
 }
 
-fn refused(alloc: Global, exception: Exception) -> Result<Outcome, NoMemory>
+/// This is refused, and nothing written.
+pub fn refused(alloc: Global, exception: Exception) -> Result<Outcome, NoMemory>
     ensures { IfOk result (IsRefused exception) }
 {
     told(alloc, Reply::Refused(exception))
 }
 
-fn told(alloc: Global, reply: Reply) -> Result<Outcome, NoMemory>
+/// This is told, and nothing is written.
+pub fn told(alloc: Global, reply: Reply) -> Result<Outcome, NoMemory>
     ensures { IfOk result (IsTold reply) }
 {
     Ok(Outcome::Answer(reply, Writes::new(alloc)))
 }
 
-// One new directory for each name, each below the one before.
-fn new_dirs(
+/// One new directory for each name, each below the one before.
+pub fn new_dirs(
     alloc: Global,
     parent: InodeId,
     next: InodeId,

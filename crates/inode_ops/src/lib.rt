@@ -1,17 +1,27 @@
-//! What the calls on inodes do: `mkdirs` and `stat`.
+//! What the calls on inodes do: `mkdirs`, `create`, `stat`, `list`, `delete` without recursion, and `chmod`.
 //!
-//! It stands on `db_state`. It promises that [`outcome`] is what the calls table says: whatever rows the view may
-//! have been read of and whatever namespace they stand for, the reply is the plain call's, and the rows with
-//! those written spell a tree, stand for the namespace after the call, count it in their quota rows, and
-//! have the ids that the history gives. Of the view it needs what a caller sees in it, and no more.
+//! It stands on `db_state` and `quota_table`. It promises that [`outcome`] computes from the view alone what the
+//! calls table says, on every table with which the view is current: the reply is the plain call's, and the rows
+//! with those to write stand for the namespace after it, have the ids of the history from the top of the path
+//! downwards, and are counted by their quota rows.
 #![tactic(auto)]
 
 mod calls;
+mod chmod;
+mod create;
+mod delete;
 mod directories;
+mod list;
 mod place;
 mod quotas;
 mod status;
 #[cfg(test)]
 mod tests;
+#[cfg(test)]
+mod tests_chmod_list;
+#[cfg(test)]
+mod tests_create;
+#[cfg(test)]
+mod tests_delete;
 
 pub use calls::outcome;

@@ -1,9 +1,10 @@
 //! What a place tells of its path.
 
 ghost use Rattle.std.specs.Prelude.{◌≡◌, ◌≤◌, length, option_copied};
-ghost use Rattle.db_state.specs.Plan.{deepest, is_whole};
+ghost use Rattle.db_state.specs.Plan.{deepest, is_whole, last_found};
 
 use db_state::Place;
+use hops_base::Key;
 use inode_table::Inode;
 
 /// Whether the path was found whole.
@@ -11,6 +12,17 @@ pub fn is_whole(place: &Place) -> bool
     ensures { result ≡ is_whole place.now }
 {
     place.path.len() < place.found.len()
+}
+
+/// The last row found, with its key.
+pub fn last_found(place: &Place) -> &(Key, Inode)
+    requires { 1 ≤ length place.now.found.items }
+    ensures { last_found place.now ≡ Some result.now }
+{
+    match place.found.as_slice().last() {
+        Some(found) => found,
+        None => unreachable!(),
+    }
 }
 
 /// The last row found.

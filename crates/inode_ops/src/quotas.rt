@@ -5,6 +5,8 @@ ghost use Rattle.hops_base.specs.declared.key.Key.{Key};
 ghost use Rattle.hops_base.specs.declared.key.Key.TheVariants as key;
 ghost use Rattle.inode_table.specs.declared.inode.Inode.{Inode};
 ghost use Rattle.name_space.specs.Namespace.{Path};
+ghost use Rattle.db_state.specs.QuotaWrites.{quota_writes, lowered};
+ghost use Rattle.inode_ops.specs.LowerSteps.{quota_left, GoesOnLowered};
 ghost use Rattle.inode_ops.specs.Outcomes.{CanRaise};
 ghost use Rattle.inode_ops.specs.Steps.{quota_in, full_at, first_full, refusal, row_raised, is_written, GoesOnRaised, HasNoQuotas};
 
@@ -131,6 +133,46 @@ fn raise_row(writes: &mut Writes, quotas: &[(InodeId, QuotaRow)], id: InodeId, n
     let key = Key::Quota(id);
     if !is_written(writes.as_slice(), &key) {
         quota.add(names, 0);
+        writes.push((key, Some(Row::Quota(quota))));
+    }
+}
+
+/// Adds to the writes the quota row of each row that has one, unless it is written already, with so many
+/// names and bytes less in use.
+pub fn lower(
+    writes: &mut Writes,
+    found: &[(Key, Inode)],
+    quotas: &[(InodeId, QuotaRow)],
+    names: u64,
+    bytes: u64,
+) -> Result<(), NoMemory>
+    ensures { OnOk result (GoesOnLowered writes.old.items found.now quotas.now names bytes writes.new.items) }
+{
+    writes.reserve(found.len() as u64)?;
+    for (_, row) in found {
+        lower_row(writes, quotas, row.id, names, bytes);
+    }
+    Ok(())
+}
+
+// Adds the quota row of this directory, unless it has none or was written.
+fn lower_row(
+    writes: &mut Writes,
+    quotas: &[(InodeId, QuotaRow)],
+    id: InodeId,
+    names: u64,
+    bytes: u64,
+)
+    requires { length writes.old.items < writes.old.room }
+    ensures { writes.new ≡ record writes.old { items = writes.old.items ++ quota_writes (lowered names bytes) (quota_left id (quota_in quotas.now id) (is_written writes.old.items (key.Quota id))) } }
+{
+    let Some(mut quota) = quota_in(quotas, id) else {
+        return;
+    };
+    let key = Key::Quota(id);
+    if !is_written(writes.as_slice(), &key) {
+        quota.used_names = quota.used_names.saturating_sub(names);
+        quota.used_bytes = quota.used_bytes.saturating_sub(bytes);
         writes.push((key, Some(Row::Quota(quota))));
     }
 }

@@ -12,12 +12,12 @@ use crate::outcome;
 use db_state::{FoundList, Outcome, Place, PlaceList, QuotaList, Row, View};
 use hops_base::{ClientNo, InodeId, Key, Name, NoMemory, Path, User};
 use inode_table::{Inode, Kind};
-use name_space::{Call, Exception, FileStatus, Reply};
+use name_space::{Call, Exception, FileStatus, Listing, Reply};
 use quota_table::QuotaRow;
 use std::alloc::Global;
 use std::test::Fail;
 
-fn inode(alloc: Global, id: u64, kind: Kind) -> Result<Inode, NoMemory>
+pub fn inode(alloc: Global, id: u64, kind: Kind) -> Result<Inode, NoMemory>
     ensures id { IfOk result (λ inode. inode.id.0 ≡ id) }
     ensures kind { IfOk result (λ inode. inode.kind ≡ kind) }
 {
@@ -36,7 +36,7 @@ fn inode(alloc: Global, id: u64, kind: Kind) -> Result<Inode, NoMemory>
     })
 }
 
-fn name(alloc: Global, text: &str) -> Result<Name, NoMemory>
+pub fn name(alloc: Global, text: &str) -> Result<Name, NoMemory>
     ensures { IfOk result (λ name. name ≡ text.now) }
 {
     match Name::read(alloc, text) {
@@ -46,7 +46,7 @@ fn name(alloc: Global, text: &str) -> Result<Name, NoMemory>
 }
 
 // The root's row with its key.
-fn root(alloc: Global) -> Result<(Key, Inode), NoMemory>
+pub fn root(alloc: Global) -> Result<(Key, Inode), NoMemory>
     ensures key { IfOk result (λ row. row.0 ≡ root_key) }
     ensures id { IfOk result (λ row. row.1.id.0 ≡ 1) }
     ensures kind { IfOk result (λ row. row.1.kind ≡ Dir) }
@@ -76,7 +76,7 @@ fn below_root(alloc: Global) -> Result<Place, NoMemory>
 }
 
 // The place of `/a/b`, where `/a` is found with the id 5, and is a directory.
-fn below_dir(alloc: Global) -> Result<Place, NoMemory>
+pub fn below_dir(alloc: Global) -> Result<Place, NoMemory>
     ensures spells { IfOk result SpellsPlace }
     ensures long { IfOk result (λ place. length place.path ≤ 2) }
     ensures below { IfOk result (λ place. IfSome (deepest place) (λ last. last.id.0 < 9)) }
@@ -99,7 +99,7 @@ fn below_dir(alloc: Global) -> Result<Place, NoMemory>
 }
 
 // The place of `/a`, which is found with the id 5, and is a file.
-fn at_file(alloc: Global) -> Result<Place, NoMemory>
+pub fn at_file(alloc: Global) -> Result<Place, NoMemory>
     ensures spells { IfOk result SpellsPlace }
     ensures long { IfOk result (λ place. length place.path ≤ 2) }
     ensures below { IfOk result (λ place. IfSome (deepest place) (λ last. last.id.0 < 9)) }
@@ -120,7 +120,7 @@ fn at_file(alloc: Global) -> Result<Place, NoMemory>
 }
 
 // The quota row of the directory 5, of which two names are used.
-fn quotas(alloc: Global, max_names: u64) -> Result<QuotaList, NoMemory>
+pub fn quotas(alloc: Global, max_names: u64) -> Result<QuotaList, NoMemory>
     ensures { IfOk result (λ quotas. CanRaise 2 quotas.items) }
 {
     let quota = QuotaRow {
@@ -159,6 +159,7 @@ fn answer(
     let view = View {
         places,
         quotas,
+        children: Listing::new(alloc),
         next: InodeId(9),
     };
     let Ok(user) = User::read(alloc, "bob") else {

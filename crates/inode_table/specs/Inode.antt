@@ -13,6 +13,11 @@ abbrev pub is_dir : Kind → Bool
 is_dir Dir = true
 is_dir File = false
 
+-- the bytes that an inode counts towards what is used: a file its length, a directory none
+abbrev pub counted_bytes : Kind → Inode → ℕ
+counted_bytes Dir inode = 0
+counted_bytes File inode = inode.len
+
 -- a directory or a file
 abbrev pub kind_if : Bool → Kind
 kind_if true = Dir

@@ -1,6 +1,7 @@
 //! An inode.
 
 ghost use Rattle.std.specs.Prelude.{◌≡◌, IfOk};
+ghost use Rattle.inode_table.specs.Inode.{counted_bytes};
 
 use hops_base::{ClientNo, InodeId, NoMemory, OpId, User};
 
@@ -49,5 +50,15 @@ impl Inode {
             has_quota: self.has_quota,
             flag: self.flag,
         })
+    }
+
+    /// The bytes that it counts towards what is used: a file its length, a directory none.
+    pub fn bytes(&self) -> u64
+        ensures { result ≡ counted_bytes self.now.kind self.now }
+    {
+        match self.kind {
+            Kind::Dir => 0,
+            Kind::File => self.len,
+        }
     }
 }

@@ -1,6 +1,7 @@
 //! What a namespace holds, and what is told of it.
 
 ghost use Rattle.std.specs.Prelude.{◌≡◌, IfOk};
+ghost use Rattle.name_space.specs.Namespace.{bytes_of};
 
 use hops_base::{ClientNo, ItemList, Name, NoMemory, User};
 
@@ -69,6 +70,18 @@ impl Entry {
                 owner: owner.copy()?,
             },
         })
+    }
+}
+
+impl Entry {
+    /// The bytes that it counts towards what is used: a file its length, a directory none.
+    pub fn bytes(&self) -> u64
+        ensures { result ≡ bytes_of self.now }
+    {
+        match self {
+            Entry::Dir { .. } => 0,
+            Entry::File { len, .. } => *len,
+        }
     }
 }
 

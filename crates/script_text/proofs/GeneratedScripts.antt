@@ -1,5 +1,5 @@
 -- What is generated is within its ranges.
-use Rattle.std.proofs.Common.{◌≡◌, ◌≤◌, ◌<◌, ℕ, suc, zero, ◌+◌, ◌*◌, ◌%◌, ◌==◌, Bool, true, false, ◌&&◌, nat_le, List, [], ◌∷◌, ◌++◌, map, length, get_or, min, Some, None, codes, decimal, refl, sym, ap, subst, ◌∙◌, arith, le-leb, inl, inr, length-append, mod-lt}
+use Rattle.std.proofs.Common.{◌≡◌, ◌≤◌, ◌<◌, ℕ, suc, zero, ◌+◌, ◌*◌, ◌%◌, ◌==◌, Bool, true, false, ◌&&◌, List, [], ◌∷◌, ◌++◌, map, length, get_or, Some, None, codes, decimal, refl, ap, arith, le-leb, inl, inr, length-append, mod-lt}
 use Rattle.std.specs.Fmt.{digits}
 use Rattle.std.specs.List.{AllByRecursion, range_with_len, list_all, IsDistinct}
 use Rattle.std.specs.Cmp.{first_so, second_so}
@@ -7,11 +7,14 @@ use Rattle.std.proofs.lemmas.Bool.{cases_eq, eqb-true}
 use Rattle.std.proofs.lemmas.List.FromFn.{length-map-range_with_len}
 use Rattle.hops_base.specs.Path.{is_short, joined, text_of}
 use Rattle.hops_base.specs.User.{is_user}
+use Rattle.hops_base.specs.Name.{is_name}
 use Rattle.name_space.specs.Call.{is_valid}
-use Rattle.name_space.specs.Script.{IsScript, is_client}
+use Rattle.name_space.specs.Script.{ClientCalls, IsScript, is_client}
 use Rattle.name_space.specs.declared.call.Call.{Call}
 use Rattle.name_space.specs.declared.call.Call.TheVariants as call
-use Rattle.script_text.specs.Generator.{Drawing, next_state, times, made_of, any_below, any_to, any_truth, any_name, any_path, kinds, any_call, first_state, user_of, client_generated, generated, made_of_both}
+use Rattle.script_text.specs.Grammar.{IsNameable, NamesPaths, CanName}
+use Rattle.script_text.proofs.Nameable.{nameable}
+use Rattle.script_text.specs.Generator.{Drawing, next_state, times, made_of, any_below, any_to, any_name, any_path, kinds, any_call, first_state, user_of, client_generated, generated, made_of_both}
 
 -- ---- finitely many numbers
 
@@ -102,14 +105,14 @@ kinds_valid = (path_short, (path_short, (path_short, (path_short, (path_short, (
         let range = to_range 50 (any_path state).1 (omega arith) in
         rw (path_short state, le-leb 1 _ range.0, le-leb (any_to 50 (any_path state).1).0 1000000000000000 (omega (arith, range.1))) refl
 
--- each of these drawings is one of valid calls
-one_valid : (each : List (Drawing Call)) (i : ℕ) (other : Drawing Call) → AllByRecursion IsValidDrawing each → IsValidDrawing other → IsValidDrawing (get_or each i other)
-one_valid [] i other all valid = valid
-one_valid (first ∷ rest) zero other all valid = all.0
-one_valid (first ∷ rest) (suc i) other all valid = one_valid rest i other all.1 valid
+-- what holds of each of these drawings and of another holds of the one at a place, or else of the other
+one_holds : (P : Drawing Call → Type 0) (each : List (Drawing Call)) (i : ℕ) (other : Drawing Call) → AllByRecursion P each → P other → P (get_or each i other)
+one_holds P [] i other all holds = holds
+one_holds P (first ∷ rest) zero other all holds = all.0
+one_holds P (first ∷ rest) (suc i) other all holds = one_holds P rest i other all.1 holds
 
 call_valid : IsValidDrawing any_call
-call_valid state = one_valid kinds (next_state state % 16) (made_of call.Mkdirs any_path) kinds_valid path_short (next_state state)
+call_valid state = one_holds IsValidDrawing kinds (next_state state % 16) (made_of call.Mkdirs any_path) kinds_valid path_short (next_state state)
 
 calls_valid : (n state : ℕ) → list_all is_valid (times n any_call state).0 ≡ true
 calls_valid zero state = refl
@@ -143,3 +146,44 @@ generated_good seed clients calls some few short =
       tries = refl;
       grace = refl;
     }
+
+-- ---- what calls name
+
+name_good : holds_below (λ digit. is_name (codes "n" ++ decimal digit)) 6 ≡ true
+unfolding digits
+name_good = refl
+
+names_good : (n state : ℕ) → list_all is_name (times n any_name state).0 ≡ true
+names_good zero state = refl
+names_good (suc n) state =
+    let less : next_state state % 6 < 6 = omega arith in
+    two_pass _ _ (holds_at (λ digit. is_name (codes "n" ++ decimal digit)) 6 (next_state state % 6) name_good less) (names_good n (any_name state).1)
+
+path_named : (state : ℕ) → IsNameable (any_path state).0
+path_named state = nameable (any_path state).0 (names_good (1 + next_state state % 3) (next_state state)) (path_short state)
+
+-- what is drawn so is a call that can name its paths
+abbrev IsNamingDrawing : Drawing Call → Type 0
+IsNamingDrawing each = (state : ℕ) → NamesPaths (each state).0
+
+kinds_naming : AllByRecursion IsNamingDrawing kinds
+kinds_naming = (one, (one, (one, (one, (one, (one, (one, (one, (one, (one, (one, (one, (one, (two, (one, (one, tt))))))))))))))))
+  where
+    one : (state : ℕ) → AllByRecursion IsNameable ((any_path state).0 ∷ [])
+    one state = (path_named state, tt)
+
+    two : (state : ℕ) → AllByRecursion IsNameable ((any_path state).0 ∷ (any_path (any_path state).1).0 ∷ [])
+    two state = (path_named state, (path_named (any_path state).1, tt))
+
+calls_naming : (n state : ℕ) → AllByRecursion NamesPaths (times n any_call state).0
+calls_naming zero state = tt
+calls_naming (suc n) state = (one_holds IsNamingDrawing kinds (next_state state % 16) (made_of call.Mkdirs any_path) kinds_naming (λ s. (path_named s, tt)) (next_state state), calls_naming n (any_call state).1)
+
+-- the clients from one on
+clients_naming : (seed calls first n : ℕ) → AllByRecursion (λ (client : ClientCalls). AllByRecursion NamesPaths client.calls) (map (client_generated seed calls) (range_with_len first n))
+clients_naming seed calls first zero = tt
+clients_naming seed calls first (suc n) = (calls_naming calls (first_state seed first), clients_naming seed calls (first + 1) n)
+
+-- each call of the script can name its paths
+pub generated_naming : (seed clients calls : ℕ) → CanName (generated seed clients calls)
+generated_naming seed clients calls = clients_naming seed calls 0 clients

@@ -11,3 +11,4 @@ mod GeneratedScripts
 mod ReadBack
 mod WrittenText
 pub mod ScriptLaws
+mod Nameable

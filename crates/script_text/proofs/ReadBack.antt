@@ -1,9 +1,8 @@
 -- The text that is written for a value is read as that value.
-use Rattle.std.proofs.Common.{◌≡◌, ◌≤◌, ◌<◌, ◌^◌, ℕ, suc, zero, ◌+◌, max, Bool, true, false, ◌&&◌, nat_le, List, [], ◌∷◌, ◌++◌, map, length, Option, Some, None, option_map, option_and_then, codes, refl, sym, ap, subst, ◌∙◌, arith, append-nil, leb-true, ltb-true}
+use Rattle.std.proofs.Common.{◌≡◌, ◌≤◌, ◌<◌, ◌^◌, ℕ, suc, Bool, true, nat_le, List, [], ◌∷◌, ◌++◌, map, Option, Some, None, option_and_then, refl, sym, ap, ◌∙◌, arith, append-nil, leb-true, ltb-true}
 use Rattle.std.specs.List.{AllByRecursion, list_all}
 use Rattle.std.specs.Cmp.{first_so, second_so}
 use Rattle.json.specs.Lex.{tokens}
-use Rattle.json.specs.Print.{print}
 use Rattle.json.specs.Json as json
 use Rattle.json.specs.Tree as tree
 use Rattle.json.proofs.Printed.Decimals.{IsNumber-decimal}
@@ -21,7 +20,7 @@ use Rattle.serde_json.specs.View.{items_of}
 use Rattle.serde_json.specs.Written.{outline, items_outline, compact_text}
 use Rattle.serde_json.proofs.Numbers.{number_of-decimal}
 use Rattle.serde_json.proofs.Texts.{print-outline}
-use Rattle.script_text.specs.Json.{whole, optional, word, row}
+use Rattle.script_text.specs.Json.{whole, optional, row}
 use Rattle.script_text.specs.Form.{path_data, call_data, client_data, stop_data, script_data, script_text}
 use Rattle.script_text.proofs.Canonical.{second_of, third_of}
 

@@ -1,6 +1,6 @@
 -- The text that is written for a script is UTF-8, and is of no other script.
 use Prim.Native.String.{String}
-use Rattle.std.proofs.Common.{◌≡◌, ◌≤◌, ◌<◌, ◌^◌, ℕ, suc, zero, ◌+◌, Bool, true, false, ◌&&◌, ◌||◌, ◌==◌, nat_le, nat_lt, List, [], ◌∷◌, ◌++◌, map, length, Option, Some, None, unwrap_or, codes, decimal, refl, sym, ap, subst, ◌∙◌, arith, leb-true, ltb-true, lt-ltb, inl, inr, IsUtf8}
+use Rattle.std.proofs.Common.{◌≡◌, ◌≤◌, ◌<◌, ◌^◌, ℕ, Bool, true, false, ◌&&◌, nat_le, nat_lt, List, [], ◌∷◌, map, length, Option, Some, None, unwrap_or, codes, decimal, refl, sym, ap, subst, ◌∙◌, arith, leb-true, ltb-true, IsUtf8}
 use Rattle.std.specs.List.{AllByRecursion, list_all}
 use Rattle.std.specs.Str.{is_utf8}
 use Rattle.std.specs.Cmp.{first_so, second_so}

@@ -12,7 +12,7 @@ multiplier = 48271
 abbrev pub modulus : ℕ
 modulus = 2147483647
 
--- how many remainders the states of seeds begin with
+-- how many first states there are: every state but 0
 abbrev pub first_states : ℕ
 first_states = 2147483646
 

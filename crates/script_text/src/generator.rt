@@ -20,12 +20,14 @@ const MOST_NAMENODES: u32 = 4;
 /// The script of a seed: this many clients, with this many calls each, on as many namenodes as there are
 /// clients and at most 4. What else it says has its default. A seed and counts give one script.
 ///
-/// The user of client `c`, from 0, is `u` and `c` in decimal. Its draws are those of the generator
-/// `x = 48271 x mod 2147483647`, beginning behind `1 + (seed + c) mod 2147483646`. For a call its kind is
-/// drawn, then a path, and then what else it is made with. A path has 1 to 3 names, each of `n0` to `n5`.
-/// Of 16 kinds mkdirs has 3, create and stat have 2 each, delete has one for each of its truth values, and
-/// append, grow, close, list, rename, chmod and set_quota have one each. What is drawn below `n` is the
-/// draw's remainder by `n`. The only error is want of memory.
+/// The user of client `c`, from 0, is `u` and `c` in decimal. The state of its draws begins as
+/// `x = 1 + (seed + c) mod 2147483646`; a draw sets `x` to `48271 x mod 2147483647` and gives it. What
+/// is drawn below `n` is the draw's remainder by `n`. For a call its kind is drawn below 16, then a path, and
+/// then what else it is made with. The kinds from 0 are mkdirs three times, create twice, append, grow,
+/// close, stat twice, list, a delete that is recursive and one that isn't, rename, chmod and set_quota.
+/// create overwrites where a draw is odd, grow adds 1 to 1,000 bytes, the mode is below 512, and the quota
+/// is of 1 to 50 names alone. A path has 1 to 3 names, each of `n0` to `n5`. The only error is want of
+/// memory.
 pub fn generate(alloc: Global, seed: u32, clients: u32, calls: u32) -> Result<Script, NoMemory>
     requires some { 1 ≤ clients }
     requires few { clients ≤ 64 }

@@ -25,6 +25,11 @@ pub fn generated_is_a_script()
         → IsScript (generated seed clients calls) }
 {}
 
+/// The calls of what is generated can name their paths.
+pub fn generated_calls_name_their_paths()
+    ensures { (seed clients calls : ℕ) → CanName (generated seed clients calls) }
+{}
+
 /// The first script is read.
 pub fn first_script_is_read()
     ensures { IsScriptText first_bytes first_script }

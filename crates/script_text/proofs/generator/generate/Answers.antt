@@ -1,4 +1,3 @@
-use Rattle.std.proofs.Common.{◌≡◌, arith}
 use Rattle.script_text.proofs.GeneratedScripts.{generated_good}
 use Rattle.script_text.proofs.generator.generate.Goals as goal
 

@@ -1,4 +1,4 @@
-use Rattle.std.proofs.Common.{arith, ℕ, ◌≡◌, ◌<◌, ◌+◌, true, false, Some, None, ap, ap₂, get_or, sym, ◌∙◌}
+use Rattle.std.proofs.Common.{arith, ℕ, ◌≡◌, ◌+◌, true, false, Some, None, ap, ap₂, get_or, ◌∙◌}
 use Rattle.name_space.specs.declared.call.Call.TheVariants as call
 use Rattle.script_text.specs.Generator.{kinds, made_of, any_path, any_truth, any_to, any_below}
 use Rattle.script_text.proofs.Generated.{call_of, with_path, with_more, of_two, of_three}

@@ -1,7 +1,7 @@
 use Rattle.std.proofs.Common.{◌≡◌, ◌+◌, ◌-◌, suc, arith}
 use Rattle.std.proofs.lemmas.List.{length_push}
-use Rattle.script_text.specs.Generator.{any_call, times}
-use Rattle.script_text.proofs.Generated.{drawn_none, drawn_more, drawn_all}
+use Rattle.script_text.specs.Generator.{any_call}
+use Rattle.script_text.proofs.Generated.{drawn_more, drawn_all}
 use Rattle.script_text.proofs.generator.Draws.calls.Goals as goal
 
 pub loop-preserved : goal.loop-preserved

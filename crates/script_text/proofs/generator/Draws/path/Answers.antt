@@ -1,4 +1,4 @@
-use Rattle.std.proofs.Common.{◌≡◌, ◌+◌, ◌-◌, suc, refl, ap, sym, ◌∙◌, arith}
+use Rattle.std.proofs.Common.{◌≡◌, ◌+◌, ◌-◌, suc, ap, ◌∙◌, arith}
 use Rattle.script_text.specs.Generator.{any_name, times}
 use Rattle.script_text.proofs.Generated.{drawn_none, drawn_more, drawn_all}
 use Rattle.script_text.proofs.generator.Draws.path.Goals as goal

@@ -1,0 +1,5 @@
+use Rattle.db_state.specs.ListLaws.{children_told_as_rows}
+use Rattle.db_state.proofs.row_laws.children_are_listed_as_their_rows.Goals as goal
+
+pub returns : goal.returns
+returns c = children_told_as_rows

@@ -1,0 +1,21 @@
+-- The writes of quota rows. This project's own.
+use Rattle.std.specs.Prelude.{◌+◌, ◌-◌, ℕ, List, [], ◌∷◌, Option, Some}
+use Rattle.hops_base.specs.declared.ids.InodeId.{InodeId}
+use Rattle.hops_base.specs.declared.key.Key.{Key}
+use Rattle.hops_base.specs.declared.key.Key.TheVariants as key
+use Rattle.quota_table.specs.declared.quota.QuotaRow.{QuotaRow}
+use Rattle.db_state.specs.declared.writes.Row.{Row}
+use Rattle.db_state.specs.declared.writes.Row.TheVariants as row
+
+-- each of these quota rows, changed so, under its inode's key
+abbrev pub quota_writes : (QuotaRow → QuotaRow) → List (InodeId × QuotaRow) → List (Key × Option Row)
+quota_writes change [] = []
+quota_writes change (q ∷ rows) = (key.Quota q.0, Some (row.Quota (change q.1))) ∷ quota_writes change rows
+
+-- the row where so many names and bytes more are used
+abbrev pub raised : ℕ → ℕ → QuotaRow → QuotaRow
+raised names bytes quota = record { max_names = quota.max_names; max_bytes = quota.max_bytes; used_names = quota.used_names + names; used_bytes = quota.used_bytes + bytes }
+
+-- where so many are used less
+abbrev pub lowered : ℕ → ℕ → QuotaRow → QuotaRow
+lowered names bytes quota = record { max_names = quota.max_names; max_bytes = quota.max_bytes; used_names = quota.used_names - names; used_bytes = quota.used_bytes - bytes }

@@ -1,0 +1,56 @@
+//! `chmod`.
+
+ghost use Rattle.std.specs.Prelude.{◌≡◌, ◌≤◌, ℕ, List, length, IfOk};
+ghost use Rattle.hops_base.specs.declared.ids.ClientNo.{ClientNo};
+ghost use Rattle.name_space.specs.declared.call.Call.TheVariants as call;
+ghost use Rattle.db_state.specs.Plan.{last_found};
+ghost use Rattle.inode_ops.specs.ChmodSteps.{with_mode, IsModeSet};
+ghost use Rattle.inode_ops.specs.Outcomes.{IsViewOf};
+ghost use Rattle.inode_ops.specs.Table.{IsCallsTable};
+
+use crate::directories::refused;
+use crate::place::is_whole;
+use db_state::{Outcome, Place, Row, View, Writes};
+use hops_base::{NoMemory, Path};
+use inode_table::Inode;
+use name_space::{Exception, Reply, Why};
+use std::alloc::Global;
+
+/// Gives what stands at the path this mode, unless that is the root.
+pub fn chmod(alloc: Global, view: &View, path: &Path, mode: u16) -> Result<Outcome, NoMemory>
+    requires { IsViewOf view.now (call.Chmod path.now mode) }
+    ensures { IfOk result (λ outcome. (client : ClientNo) (user : List ℕ) → IsCallsTable view.now client user (call.Chmod path.now mode) outcome) }
+{
+    let Some(place) = view.places.get(0) else {
+        unreachable!()
+    };
+    if path.len() == 0 {
+        return refused(alloc, Exception::IO(Why::RootFixed));
+    }
+    if !is_whole(place) {
+        return refused(alloc, Exception::FileNotFound);
+    }
+    set_mode(alloc, place, mode)
+}
+
+// Writes the last row found with this mode.
+fn set_mode(alloc: Global, place: &Place, mode: u16) -> Result<Outcome, NoMemory>
+    requires { 1 ≤ length place.now.found.items }
+    ensures { IfOk result (IsModeSet (last_found place.now) mode) }
+{
+    let Some((key, inode)) = place.found.as_slice().last() else {
+        unreachable!()
+    };
+    let mut writes = Writes::new(alloc);
+    writes.reserve(1)?;
+    writes.push((key.copy()?, Some(Row::Inode(with_mode(inode, mode)?))));
+    Ok(Outcome::Answer(Reply::Truth(true), writes))
+}
+
+fn with_mode(inode: &Inode, mode: u16) -> Result<Inode, NoMemory>
+    ensures { IfOk result (λ changed. changed ≡ with_mode mode inode.now) }
+{
+    let mut changed = inode.copy()?;
+    changed.mode = mode;
+    Ok(changed)
+}

@@ -1,0 +1,70 @@
+//! `delete` of a file or of an empty directory.
+
+ghost use Rattle.std.specs.Prelude.{◌≡◌, false, ℕ, List, IfOk};
+ghost use Rattle.hops_base.specs.declared.ids.ClientNo.{ClientNo};
+ghost use Rattle.name_space.specs.declared.call.Call.TheVariants as call;
+ghost use Rattle.db_state.specs.Current.{SpellsPlace};
+ghost use Rattle.db_state.specs.declared.outcome.Outcome.{Outcome};
+ghost use Rattle.inode_ops.specs.DeleteSteps.{RemovesLast, AnswersDelete};
+ghost use Rattle.inode_ops.specs.Outcomes.{IsViewOf};
+ghost use Rattle.inode_ops.specs.Table.{IsCallsTable};
+
+use crate::place::is_whole;
+use crate::quotas::lower;
+use db_state::{Outcome, Place, View, Writes};
+use hops_base::{InodeId, Key, NoMemory, Path};
+use inode_table::{Inode, Kind};
+use name_space::{Exception, Reply};
+use quota_table::QuotaRow;
+use std::alloc::Global;
+
+/// Removes what stands at the path, unless that is the root or a directory with a child. The reply tells
+/// whether there was something to remove, or refuses a directory with a child. Its one error is want of
+/// memory.
+pub fn delete(alloc: Global, view: &View, path: &Path) -> Result<Outcome, NoMemory>
+    requires { IsViewOf view.now (call.Delete path.now false) }
+    ensures { IfOk result (λ outcome. (client : ClientNo) (user : List ℕ) → IsCallsTable view.now client user (call.Delete path.now false) outcome) }
+{
+    let Some(place) = view.places.get(0) else {
+        unreachable!()
+    };
+    delete_at(alloc, place, view.quotas.as_slice())
+}
+
+// Removes the row of the place's path, where it may go.
+fn delete_at(
+    alloc: Global,
+    place: &Place,
+    quotas: &[(InodeId, QuotaRow)],
+) -> Result<Outcome, NoMemory>
+    requires { SpellsPlace place.now }
+    ensures { IfOk result (AnswersDelete place.now quotas.now) }
+{
+    if place.path.len() == 0 || !is_whole(place) {
+        return Ok(Outcome::Answer(Reply::Truth(false), Writes::new(alloc)));
+    }
+    if place.has_child {
+        let refusal = Reply::Refused(Exception::PathIsNotEmptyDirectory);
+        return Ok(Outcome::Answer(refusal, Writes::new(alloc)));
+    }
+    let writes = removal(alloc, place, quotas)?;
+    Ok(Outcome::Answer(Reply::Truth(true), writes))
+}
+
+// Removes the last row found with its quota row, and counts it no more in those of the directories above.
+fn removal(alloc: Global, place: &Place, quotas: &[(InodeId, QuotaRow)]) -> Result<Writes, NoMemory>
+    requires { SpellsPlace place.now }
+    ensures { IfOk result (λ writes. RemovesLast place.now quotas.now writes.items) }
+{
+    let Some(((key, row), above)) = place.found.as_slice().split_last() else {
+        unreachable!()
+    };
+    let mut writes = Writes::new(alloc);
+    writes.reserve(2)?;
+    writes.push((key.copy()?, None));
+    if row.has_quota {
+        writes.push((Key::Quota(row.id), None));
+    }
+    lower(&mut writes, above, quotas, 1, row.bytes())?;
+    Ok(writes)
+}
