@@ -264,27 +264,40 @@ fn rule_14_of_the_form_of_a_call(rt: HostRuntime) -> Result<(), Fail> {
     Ok(())
 }
 
+// Whether the second call is refused for its path, and why.
+fn is_bad_path(alloc: Global, call: &str, why: PathFault) -> Result<bool, Fail> {
+    let text = with_second_call(alloc, call)?;
+    let expected = ScriptFault {
+        rule: 15,
+        at: 0,
+        call: 2,
+        path: Some(why),
+    };
+    Ok(read_script(alloc, text.as_bytes()).err() == Some(ScriptError::Bad(expected)))
+}
+
 #[test]
 fn rule_15_of_paths(rt: HostRuntime) -> Result<(), Fail> {
-    let alloc = rt.alloc();
     for (call, why) in [
         (r#"["stat","a"]"#, PathFault::Relative),
         (r#"["grow","/a/../b",0]"#, PathFault::Dot(1)),
         (r#"["rename","/a\u0000","b"]"#, PathFault::Nul(0)),
         (r#"["rename","/a","/b//c"]"#, PathFault::EmptyName(1)),
     ] {
-        let text = with_second_call(alloc, call)?;
-        let expected = ScriptFault {
-            rule: 15,
-            at: 0,
-            call: 2,
-            path: Some(why),
-        };
-        assert!(rt;
-            read_script(alloc, text.as_bytes()).err() == Some(ScriptError::Bad(expected)),
-            "{call}"
-        );
+        assert!(rt; is_bad_path(rt.alloc(), call, why)?, "{call}");
     }
+    Ok(())
+}
+
+#[test]
+fn rule_15_of_a_path_with_1001_names(rt: HostRuntime) -> Result<(), Fail> {
+    let alloc = rt.alloc();
+    let mut path = String::new(alloc);
+    for _ in 0..1001u32 {
+        path.push_str("/a")?;
+    }
+    let call = format!(in alloc; "[\"stat\",\"{path}\"]")?;
+    assert!(rt; is_bad_path(alloc, call.as_str(), PathFault::TooDeep(1001))?);
     Ok(())
 }
 
