@@ -14,12 +14,13 @@ use Rattle.commit_log.specs.declared.note.Note.{Note}
 use Rattle.commit_log.specs.declared.note.Note.TheVariants.{Open, Took, Gave, Wrote, Did, Cut, Met, Gone}
 use Rattle.commit_log.specs.declared.note.Ended.{Ended}
 use Rattle.commit_log.specs.declared.held.Losses.{Losses}
+use Rattle.commit_log.specs.declared.held.Taken.{Taken}
 use Rattle.commit_log.specs.Parts.{passes, Opening, opened, opens, opening_of, Taking, took, gone_in, loses}
 use Rattle.commit_log.specs.PartLaws.{opening_of-append, opening_of-kept}
 use Rattle.commit_log.specs.Locks.{is_of, is_at, held_after, held_from, held}
 use Rattle.commit_log.specs.Places.{opens_at, opening_end, gives_all, is_past}
 use Rattle.commit_log.specs.Reads.{Lock, lock_of, node_cmp, session_cmp}
-use Rattle.commit_log.specs.Losses.{IsLosses, after, is_lost_after, stays_on}
+use Rattle.commit_log.specs.Losses.{IsLosses, after, is_lost_after, stays_on, kept_of, taken_as, taken_at, taken_from, is_lasting, lock_in}
 use Rattle.commit_log.proofs.PlaceLemmas.{any_drop}
 use Rattle.commit_log.proofs.RunLemmas.{take-next, counted, last_end-next}
 
@@ -207,22 +208,9 @@ lost_by_place before notes s =
 -- ---- what is kept
 
 -- the locks that were taken among these notes and stay, where so many stand before them
-abbrev pub kept_from : (ℕ → SessionId → Bool) → ℕ → List Note → List Taking
+abbrev kept_from : (ℕ → SessionId → Bool) → ℕ → List Note → List Taking
 kept_from stays k [] = []
 kept_from stays k (n ∷ notes) = filter (λ (t : Taking). stays (suc k) t.session) (cons_option (took n) []) ++ kept_from stays (suc k) notes
-
-pub kept_from-push : (stays : ℕ → SessionId → Bool) (k : ℕ) (notes : List Note) (note : Note) → kept_from stays k (notes ++ note ∷ []) ≡ kept_from stays k notes ++ filter (λ (t : Taking). stays (k + suc (length notes)) t.session) (cons_option (took note) [])
-kept_from-push stays k [] note = append-nil (filter (λ (t : Taking). stays (suc k) t.session) (cons_option (took note) [])) ∙ ap (λ (m : ℕ). filter (λ (t : Taking). stays m t.session) (cons_option (took note) [])) one
-  where
-    one : suc k ≡ k + 1
-    one = omega arith
-kept_from-push stays k (n ∷ notes) note =
-    ap (λ (ts : List Taking). filter (λ (t : Taking). stays (suc k) t.session) (cons_option (took n) []) ++ ts) (kept_from-push stays (suc k) notes note)
-    ∙ sym (append_assoc (filter (λ (t : Taking). stays (suc k) t.session) (cons_option (took n) [])) (kept_from stays (suc k) notes) _)
-    ∙ ap (λ (m : ℕ). kept_from stays k (n ∷ notes) ++ filter (λ (t : Taking). stays m t.session) (cons_option (took note) [])) one
-  where
-    one : suc k + suc (length notes) ≡ k + suc (suc (length notes))
-    one = omega arith
 
 -- nothing gives back what the session took before these notes
 abbrev lasts : List Note → List Note → SessionId → Bool
@@ -318,11 +306,32 @@ stays_lasts all losses is before notes here s =
     gone = ap (passes (is_lost_after losses (length before))) (is.opening s) ∙ each (opening_end s all) ∙ sym (lost_by_place before notes s ∙ ap (λ (ns : List Note). passes (lost_after ns (length before)) (opening_end s ns)) here)
 
 -- what is held is what was taken and stays
-pub held_by_place : (notes : List Note) (losses : Losses) → IsLosses notes losses → kept_from (stays_on losses) 0 notes ≡ held notes
+held_by_place : (notes : List Note) (losses : Losses) → IsLosses notes losses → kept_from (stays_on losses) 0 notes ≡ held notes
 unfolding held
 held_by_place notes losses is = sym (held_kept (stays_on losses) notes (stays_lasts notes losses is) [] [] notes refl)
 
--- ---- the walks
+-- what is sifted from what one note takes
+sifted_one : (losses : Losses) (k : ℕ) (t : Option Taking) → map lock_in (filter (is_lasting losses) (map (taken_as k) (cons_option t []))) ≡ map lock_of (filter (λ (u : Taking). stays_on losses k u.session) (cons_option t []))
+sifted_one losses k None = refl
+sifted_one losses k (Some t) = elim (stays_on losses k t.session) as (λ b. map lock_in (cond b (taken_as k t ∷ []) []) ≡ map lock_of (cond b (t ∷ []) [])) [
+  | true ↦ refl
+  | false ↦ refl
+]
+
+sifted : (losses : Losses) (k : ℕ) (notes : List Note) → map lock_in (filter (is_lasting losses) (taken_from k notes)) ≡ map lock_of (kept_from (stays_on losses) k notes)
+sifted losses k [] = refl
+sifted losses k (n ∷ notes) =
+    ap (map lock_in) (filter-append (is_lasting losses) (taken_at (suc k) n) (taken_from (suc k) notes))
+    ∙ map-append lock_in (filter (is_lasting losses) (taken_at (suc k) n)) (filter (is_lasting losses) (taken_from (suc k) notes))
+    ∙ ap (λ (ls : List Lock). ls ++ map lock_in (filter (is_lasting losses) (taken_from (suc k) notes))) (sifted_one losses (suc k) (took n))
+    ∙ ap (λ (ls : List Lock). map lock_of (kept_of losses (suc k) n) ++ ls) (sifted losses (suc k) notes)
+    ∙ sym (map-append lock_of (kept_of losses (suc k) n) (kept_from (stays_on losses) (suc k) notes))
+
+-- what is sifted from all that is taken is what is held
+pub held_by_sifting : (notes : List Note) (losses : Losses) (takings : List Taken) → IsLosses notes losses → takings ≡ taken_from 0 notes → map lock_in (filter (is_lasting losses) takings) ≡ map lock_of (held notes)
+held_by_sifting notes losses takings is all = ap (λ (ts : List Taken). map lock_in (filter (is_lasting losses) ts)) all ∙ sifted losses 0 notes ∙ ap (map lock_of) (held_by_place notes losses is)
+
+-- ---- the walk, and the sifting
 
 pub losses-next : (notes : List Note) (i : ℕ) (note : Note) (old new : Losses) → i < length notes → note ≡ get_or notes i note → IsLosses (take i notes) old
     → ((s : SessionId) → get session_cmp new.opened s ≡ option_or (get session_cmp old.opened s) (option_map (after (i + 1)) (opens_at s note)))
@@ -339,12 +348,34 @@ losses-next notes i note old new h is was opening giving loss = record {
   loss = λ node. loss node ∙ ap (λ (t : Option ℕ). cond (loses node note) (Some (i + 1)) t) (was.loss node) ∙ last_end-next (loses node) notes i note h is;
 }
 
-pub lasting-next : (stays : ℕ → SessionId → Bool) (notes : List Note) (i : ℕ) (note : Note) (old new : List Lock) → i < length notes → note ≡ get_or notes i note
-    → old ≡ map lock_of (kept_from stays 0 (take i notes)) → new ≡ old ++ map lock_of (filter (λ (t : Taking). stays (i + 1) t.session) (cons_option (took note) [])) → new ≡ map lock_of (kept_from stays 0 (take (i + 1) notes))
-lasting-next stays notes i note old new h is was now =
+taken_from-push : (k : ℕ) (notes : List Note) (note : Note) → taken_from k (notes ++ note ∷ []) ≡ taken_from k notes ++ taken_at (k + suc (length notes)) note
+taken_from-push k [] note = append-nil (taken_at (suc k) note) ∙ ap (λ (m : ℕ). taken_at m note) one
+  where
+    one : suc k ≡ k + 1
+    one = omega arith
+taken_from-push k (n ∷ notes) note =
+    ap (λ (ts : List Taken). taken_at (suc k) n ++ ts) (taken_from-push (suc k) notes note)
+    ∙ sym (append_assoc (taken_at (suc k) n) (taken_from (suc k) notes) _)
+    ∙ ap (λ (m : ℕ). taken_from k (n ∷ notes) ++ taken_at m note) one
+  where
+    one : suc k + suc (length notes) ≡ k + suc (suc (length notes))
+    one = omega arith
+
+pub takings-next : (notes : List Note) (i : ℕ) (note : Note) (old new : List Taken) → i < length notes → note ≡ get_or notes i note → old ≡ taken_from 0 (take i notes) → new ≡ old ++ taken_at (i + 1) note
+    → new ≡ taken_from 0 (take (i + 1) notes)
+takings-next notes i note old new h is was now =
     now
-    ∙ ap (λ (ls : List Lock). ls ++ map lock_of (filter (λ (t : Taking). stays (i + 1) t.session) (cons_option (took note) []))) was
-    ∙ ap (λ (k : ℕ). map lock_of (kept_from stays 0 (take i notes)) ++ map lock_of (filter (λ (t : Taking). stays k t.session) (cons_option (took note) []))) (counted notes i h ∙ from_none _)
-    ∙ sym (map-append lock_of (kept_from stays 0 (take i notes)) _)
-    ∙ ap (map lock_of) (sym (kept_from-push stays 0 (take i notes) note))
-    ∙ ap (λ (ns : List Note). map lock_of (kept_from stays 0 ns)) (sym (take-next notes i note h is))
+    ∙ ap (λ (ts : List Taken). ts ++ taken_at (i + 1) note) was
+    ∙ ap (λ (k : ℕ). taken_from 0 (take i notes) ++ taken_at k note) (counted notes i h ∙ from_none _)
+    ∙ sym (taken_from-push 0 (take i notes) note)
+    ∙ ap (λ (ns : List Note). taken_from 0 ns) (sym (take-next notes i note h is))
+
+pub lasting-next : (losses : Losses) (taken : Taken) (left rest : List Taken) (old new all : List Lock) → left ≡ taken ∷ rest → old ++ map lock_in (filter (is_lasting losses) left) ≡ all
+    → new ≡ old ++ map lock_in (filter (is_lasting losses) (taken ∷ [])) → new ++ map lock_in (filter (is_lasting losses) rest) ≡ all
+lasting-next losses taken left rest old new all first was now =
+    ap (λ (ls : List Lock). ls ++ map lock_in (filter (is_lasting losses) rest)) now
+    ∙ append_assoc old (map lock_in (filter (is_lasting losses) (taken ∷ []))) (map lock_in (filter (is_lasting losses) rest))
+    ∙ ap (λ (ls : List Lock). old ++ ls) (sym (map-append lock_in (filter (is_lasting losses) (taken ∷ [])) (filter (is_lasting losses) rest)))
+    ∙ ap (λ (ts : List Taken). old ++ map lock_in ts) (sym (filter-append (is_lasting losses) (taken ∷ []) rest))
+    ∙ ap (λ (ts : List Taken). old ++ map lock_in (filter (is_lasting losses) ts)) (sym first)
+    ∙ was

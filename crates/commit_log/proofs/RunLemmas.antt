@@ -1,23 +1,23 @@
 -- The walk over a book that finds its journal and the operations whose flags are set.
-use Rattle.std.specs.Prelude.{◌≡◌, ℕ, ◌+◌, ◌<◌, suc, Bool, true, false, not, ◌||◌, ◌&&◌, ◌==◌, cond, List, [], ◌∷◌, ◌++◌, length, take, Option, Some, None, option_map, refl}
+use Rattle.std.specs.Prelude.{◌≡◌, ℕ, ◌+◌, ◌<◌, suc, Bool, true, false, not, ◌||◌, ◌&&◌, ◌==◌, cond, List, [], ◌∷◌, ◌++◌, length, take, map, Option, Some, None, refl}
 use Rattle.std.specs.BTreeMap.{get}
 use Rattle.std.specs.List.{list_any, filter, filter_map, cons_option}
 use Rattle.std.specs.Option.{option_or}
 use Rattle.std.proofs.Common.{sym, ap, ◌∙◌, arith, get_or, add-one}
 use Rattle.std.specs.Ordering.{is_eq, nat_cmp}
 use Rattle.std.proofs.Math.Seq.{take-suc}
-use Rattle.std.proofs.lemmas.List.Elements.{filter-append, filter_map-append}
+use Rattle.std.proofs.lemmas.List.Elements.{filter_map-append}
 use Rattle.std.proofs.lemmas.List.Folds.{list_any-append}
-use Rattle.std.proofs.lemmas.List.{length-take-le}
+use Rattle.std.proofs.lemmas.List.{length-take-le, map-append}
 use Rattle.hops_base.specs.declared.ids.SessionId.{SessionId}
 use Rattle.hops_base.specs.declared.ids.OpId.{OpId}
 use Rattle.commit_log.specs.declared.note.Note.{Note}
 use Rattle.commit_log.specs.declared.flagged.Runs.{Runs}
-use Rattle.commit_log.specs.Parts.{passes, Flagging, flagged, flags_op}
+use Rattle.commit_log.specs.Parts.{Flagging, flagged, flags_op}
 use Rattle.commit_log.specs.Flags.{is_running}
 use Rattle.commit_log.specs.Places.{first_end, last_end, is_past, is_answer_of, reclaims_op}
-use Rattle.commit_log.specs.Reads.{tells_history, journal, op_cmp, session_cmp}
-use Rattle.commit_log.specs.Runs.{IsRuns, op_and_session, runs_on}
+use Rattle.commit_log.specs.Reads.{tells_history, journal, op_cmp, session_cmp, is_flagged}
+use Rattle.commit_log.specs.Runs.{IsRuns, op_and_session, runs_on, runs_as}
 use Rattle.commit_log.proofs.PlaceLemmas.{first_end-push, last_end-push, journal_from-push, running_by_place}
 
 -- one note more of a book
@@ -75,21 +75,13 @@ running_by_runs notes runs flag is =
 eq_by_nat : (m n : ℕ) → is_eq (nat_cmp m n) ≡ (m == n)
 eq_by_nat m n = grind arith
 
-told_by : (runs : Runs) (t : Option Flagging) (o op : OpId) (s : SessionId) → option_map op_and_session t ≡ Some (o, s) → passes (λ (f : Flagging). runs_on runs f.op f.session && (f.op.0 == op.0)) t ≡ (runs_on runs o s && (o.0 == op.0))
-told_by runs None o op s is = cc
-told_by runs (Some f) o op s is =
-    let pair : (f.op, f.session) ≡ (o, s) = cc in
-    ap (λ (p : OpId × SessionId). runs_on runs p.0 p.1 && (p.0.0 == op.0)) pair
-
--- a flag that the note sets is added where nothing has ended it
-pub added : (runs : Runs) (note : Note) (o op : OpId) (s : SessionId) (old new : Bool) → option_map op_and_session (flagged note) ≡ Some (o, s) → runs_on runs o s ≡ true → new ≡ cond (is_eq (nat_cmp o.0 op.0)) true old
-    → new ≡ (old || passes (λ (f : Flagging). runs_on runs f.op f.session && (f.op.0 == op.0)) (flagged note))
-added runs note o op s old new is on now =
+-- the operation of a flag is added where nothing has ended it
+pub added : (runs : Runs) (o op : OpId) (s : SessionId) (old new : Bool) → runs_on runs o s ≡ true → new ≡ cond (is_eq (nat_cmp o.0 op.0)) true old → new ≡ (old || runs_as runs op (o, s))
+added runs o op s old new on now =
     now
     ∙ ap (λ b. cond b true old) (eq_by_nat o.0 op.0)
     ∙ two old (o.0 == op.0)
     ∙ ap (λ b. old || (b && (o.0 == op.0))) (sym on)
-    ∙ ap (λ b. old || b) (sym (told_by runs (flagged note) o op s is))
   where
     two : (a b : Bool) → cond b true a ≡ (a || b)
     two true true = refl
@@ -97,53 +89,48 @@ added runs note o op s old new is on now =
     two false true = refl
     two false false = refl
 
-pub passed_over : (runs : Runs) (note : Note) (o op : OpId) (s : SessionId) (old : Bool) → option_map op_and_session (flagged note) ≡ Some (o, s) → runs_on runs o s ≡ false
-    → old ≡ (old || passes (λ (f : Flagging). runs_on runs f.op f.session && (f.op.0 == op.0)) (flagged note))
-passed_over runs note o op s old is off =
-    or_false old
-    ∙ ap (λ b. old || (b && (o.0 == op.0))) (sym off)
-    ∙ ap (λ b. old || b) (sym (told_by runs (flagged note) o op s is))
+pub passed_over : (runs : Runs) (o op : OpId) (s : SessionId) (old : Bool) → runs_on runs o s ≡ false → old ≡ (old || runs_as runs op (o, s))
+passed_over runs o op s old off = or_false old ∙ ap (λ b. old || (b && (o.0 == op.0))) (sym off)
   where
     or_false : (b : Bool) → b ≡ (b || false)
     or_false true = refl
     or_false false = refl
 
-pub no_flag : (runs : Runs) (note : Note) (op : OpId) (old : Bool) → option_map op_and_session (flagged note) ≡ None
-    → old ≡ (old || passes (λ (f : Flagging). runs_on runs f.op f.session && (f.op.0 == op.0)) (flagged note))
-no_flag runs note op old is = elim (flagged note) as (λ (t : Option Flagging). option_map op_and_session t ≡ None → old ≡ (old || passes (λ (f : Flagging). runs_on runs f.op f.session && (f.op.0 == op.0)) t)) [
-  | None ↦ λ e. or_false old
-  | Some f ↦ λ e. cc
-] is
-  where
-    or_false : (b : Bool) → b ≡ (b || false)
-    or_false true = refl
-    or_false false = refl
-
--- the flag is of the operation
-abbrev pub of_op : OpId → Flagging → Bool
-of_op op f = f.op.0 == op.0
-
-one_more : (all : List Note) (runs : Runs) (op : OpId) (t : Option Flagging) → IsRuns all runs → list_any (of_op op) (filter (is_running all) (cons_option t [])) ≡ passes (λ (f : Flagging). runs_on runs f.op f.session && (f.op.0 == op.0)) t
-one_more all runs op None is = refl
-one_more all runs op (Some f) is = ap (λ b. list_any (of_op op) (cond b (f ∷ []) [])) (running_by_runs all runs f is) ∙ two (runs_on runs f.op f.session)
-  where
-    or_false : (b : Bool) → (b || false) ≡ b
-    or_false true = refl
-    or_false false = refl
-
-    two : (b : Bool) → list_any (of_op op) (cond b (f ∷ []) []) ≡ (b && (f.op.0 == op.0))
-    two true = or_false (f.op.0 == op.0)
-    two false = refl
-
-pub running-next : (all : List Note) (i : ℕ) (note : Note) (runs : Runs) (op : OpId) (old new : Bool) → i < length all → note ≡ get_or all i note → IsRuns all runs
-    → old ≡ list_any (of_op op) (filter (is_running all) (filter_map flagged (take i all)))
-    → new ≡ (old || passes (λ (f : Flagging). runs_on runs f.op f.session && (f.op.0 == op.0)) (flagged note))
-    → new ≡ list_any (of_op op) (filter (is_running all) (filter_map flagged (take (i + 1) all)))
-running-next all i note runs op old new h at is was now =
+pub running-next : (runs : Runs) (flags : List (OpId × SessionId)) (i : ℕ) (none : OpId × SessionId) (op : OpId) (old new : Bool) → i < length flags → old ≡ list_any (runs_as runs op) (take i flags)
+    → new ≡ (old || runs_as runs op (get_or flags i none)) → new ≡ list_any (runs_as runs op) (take (i + 1) flags)
+running-next runs flags i none op old new h was now =
     now
-    ∙ ap (λ b. b || passes (λ (f : Flagging). runs_on runs f.op f.session && (f.op.0 == op.0)) (flagged note)) was
-    ∙ ap (λ b. list_any (of_op op) (filter (is_running all) (filter_map flagged (take i all))) || b) (sym (one_more all runs op (flagged note) is))
-    ∙ sym (list_any-append (of_op op) (filter (is_running all) (filter_map flagged (take i all))) (filter (is_running all) (filter_map flagged (note ∷ []))))
-    ∙ ap (list_any (of_op op)) (sym (filter-append (is_running all) (filter_map flagged (take i all)) (filter_map flagged (note ∷ []))))
-    ∙ ap (λ (fs : List Flagging). list_any (of_op op) (filter (is_running all) fs)) (sym (filter_map-append flagged (take i all) (note ∷ [])))
-    ∙ ap (λ (ns : List Note). list_any (of_op op) (filter (is_running all) (filter_map flagged ns))) (sym (take-next all i note h at))
+    ∙ ap (λ b. b || runs_as runs op (get_or flags i none)) was
+    ∙ ap (λ b. list_any (runs_as runs op) (take i flags) || b) (or_false (runs_as runs op (get_or flags i none)))
+    ∙ sym (list_any-append (runs_as runs op) (take i flags) (get_or flags i none ∷ []))
+    ∙ ap (list_any (runs_as runs op)) (sym (ap (λ (n : ℕ). take n flags) (add-one i) ∙ take-suc flags i none h))
+  where
+    or_false : (b : Bool) → b ≡ (b || false)
+    or_false true = refl
+    or_false false = refl
+
+pub flags-next : (notes : List Note) (i : ℕ) (note : Note) (old new : List (OpId × SessionId)) → i < length notes → note ≡ get_or notes i note
+    → old ≡ map op_and_session (filter_map flagged (take i notes)) → new ≡ old ++ map op_and_session (cons_option (flagged note) []) → new ≡ map op_and_session (filter_map flagged (take (i + 1) notes))
+flags-next notes i note old new h is was now =
+    now
+    ∙ ap (λ (fs : List (OpId × SessionId)). fs ++ map op_and_session (cons_option (flagged note) [])) was
+    ∙ sym (map-append op_and_session (filter_map flagged (take i notes)) (filter_map flagged (note ∷ [])))
+    ∙ ap (map op_and_session) (sym (filter_map-append flagged (take i notes) (note ∷ [])))
+    ∙ ap (λ (ns : List Note). map op_and_session (filter_map flagged ns)) (sym (take-next notes i note h is))
+
+-- the flags that are sifted from all flags are those that are set
+sifted : (notes : List Note) (runs : Runs) (op : OpId) → IsRuns notes runs → (fs : List Flagging) → list_any (runs_as runs op) (map op_and_session fs) ≡ list_any (λ (f : Flagging). f.op.0 == op.0) (filter (is_running notes) fs)
+sifted notes runs op is [] = refl
+sifted notes runs op is (f ∷ fs) =
+    ap (λ b. runs_as runs op (op_and_session f) || b) (sifted notes runs op is fs)
+    ∙ (elim (runs_on runs f.op f.session) as (λ b. ((b && (f.op.0 == op.0)) || rest) ≡ list_any (λ (g : Flagging). g.op.0 == op.0) (cond b (f ∷ filter (is_running notes) fs) (filter (is_running notes) fs))) [
+      | true ↦ refl
+      | false ↦ refl
+    ])
+    ∙ ap (λ b. list_any (λ (g : Flagging). g.op.0 == op.0) (cond b (f ∷ filter (is_running notes) fs) (filter (is_running notes) fs))) (sym (running_by_runs notes runs f is))
+  where
+    rest : Bool
+    rest = list_any (λ (g : Flagging). g.op.0 == op.0) (filter (is_running notes) fs)
+
+pub flagged_by_sifting : (notes : List Note) (runs : Runs) (flags : List (OpId × SessionId)) (op : OpId) → IsRuns notes runs → flags ≡ map op_and_session (filter_map flagged notes) → list_any (runs_as runs op) flags ≡ is_flagged notes op
+flagged_by_sifting notes runs flags op is all = ap (list_any (runs_as runs op)) all ∙ sifted notes runs op is (filter_map flagged notes)

@@ -1,14 +1,15 @@
 -- What tells, of any session, whether a lock that it took is still held. This project's own.
-use Rattle.std.specs.Prelude.{◌≡◌, ℕ, Bool, not, ◌||◌, max, List, [], Some}
+use Rattle.std.specs.Prelude.{◌≡◌, ℕ, suc, Bool, not, ◌||◌, max, List, [], ◌∷◌, ◌++◌, map, Some}
 use Rattle.std.specs.BTreeMap.{get}
 use Rattle.std.specs.List.{filter, cons_option}
 use Rattle.hops_base.specs.declared.ids.SessionId.{SessionId}
 use Rattle.hops_base.specs.declared.ids.NodeNo.{NodeNo}
 use Rattle.commit_log.specs.declared.note.Note.{Note}
 use Rattle.commit_log.specs.declared.held.Losses.{Losses}
+use Rattle.commit_log.specs.declared.held.Taken.{Taken}
 use Rattle.commit_log.specs.Parts.{passes, Taking, took, loses}
 use Rattle.commit_log.specs.Places.{last_end, opening_end, is_past, gives_all}
-use Rattle.commit_log.specs.Reads.{session_cmp, node_cmp}
+use Rattle.commit_log.specs.Reads.{Lock, lock_of, session_cmp, node_cmp}
 
 -- the maps have what they are to keep of these notes
 pub record IsLosses (notes : List Note) (losses : Losses) : Type 0 where
@@ -31,3 +32,24 @@ stays_on losses count s = not (is_past (Some count) (get session_cmp losses.gave
 -- the lock that the note takes, the last of so many, where it is still held
 abbrev pub kept_of : Losses → ℕ → Note → List Taking
 kept_of losses count note = filter (λ (t : Taking). stays_on losses count t.session) (cons_option (took note) [])
+
+-- what a session took, the last of so many notes telling so
+abbrev pub taken_as : ℕ → Taking → Taken
+taken_as count t = record { count = count; lock = lock_of t }
+
+-- what the note takes, the last of so many
+abbrev pub taken_at : ℕ → Note → List Taken
+taken_at count note = map (taken_as count) (cons_option (took note) [])
+
+-- all that is taken among these notes, where so many stand before them
+abbrev pub taken_from : ℕ → List Note → List Taken
+taken_from k [] = []
+taken_from k (note ∷ notes) = taken_at (suc k) note ++ taken_from (suc k) notes
+
+-- nothing has given it back
+abbrev pub is_lasting : Losses → Taken → Bool
+is_lasting losses taken = stays_on losses taken.count taken.lock.0
+
+-- its lock
+abbrev pub lock_in : Taken → Lock
+lock_in taken = taken.lock

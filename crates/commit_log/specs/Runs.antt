@@ -1,5 +1,5 @@
 -- What tells, of any operation and session, whether its flag is set. This project's own.
-use Rattle.std.specs.Prelude.{◌≡◌, Bool, not, ◌||◌, List}
+use Rattle.std.specs.Prelude.{◌≡◌, Bool, not, ◌||◌, ◌&&◌, ◌==◌, List}
 use Rattle.std.specs.BTreeMap.{get}
 use Rattle.hops_base.specs.declared.ids.SessionId.{SessionId}
 use Rattle.hops_base.specs.declared.ids.OpId.{OpId}
@@ -22,3 +22,7 @@ runs_on runs op s = not (is_past (get op_cmp runs.flagged op) (get op_cmp runs.r
 -- the operation and the session of a flag
 abbrev pub op_and_session : Flagging → OpId × SessionId
 op_and_session f = (f.op, f.session)
+
+-- the flag is of the operation, and nothing has ended it
+abbrev pub runs_as : Runs → OpId → OpId × SessionId → Bool
+runs_as runs op flag = runs_on runs flag.0 flag.1 && (flag.0.0 == op.0)

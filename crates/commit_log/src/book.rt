@@ -85,7 +85,8 @@ impl Book {
     /// The locks that are held just before note `i`, or at the book's end where `i` is at least its length:
     /// each with its session, its key and its mode, by key and then by session. A session that has taken a
     /// key twice has it twice, in the order in which it took it. NoMemory comes only where memory ran out.
-    /// It goes over the notes once for what gives locks back and once for the locks, and sorts these.
+    /// It goes over the notes once, gathers every lock that was taken and what gives locks back, and then
+    /// sifts and sorts what it gathered.
     pub fn held_at(&self, i: u64) -> Result<Vec<(SessionId, Key, Mode)>, NoMemory>
         ensures { IfOk result (λ locks. HoldsExactly (take i self.now.notes) locks.items) }
     {
@@ -94,7 +95,7 @@ impl Book {
 
     /// The operations whose flags are set just before note `i`, or at the book's end where `i` is at least
     /// its length, rising and each once. NoMemory comes only where memory ran out. It goes over the notes
-    /// once for what sets and ends flags and once for the flags.
+    /// once, gathers every flag and what ends flags, and then sifts what it gathered.
     pub fn flags_at(&self, i: u64) -> Result<Vec<OpId>, NoMemory>
         ensures { IfOk result (λ ops. FlagsExactly (take i self.now.notes) ops.items) }
     {

@@ -1,16 +1,17 @@
 //! The operations whose flags are set.
 
-ghost use Rattle.std.specs.Prelude.{◌≡◌, ◌||◌, ◌&&◌, ◌==◌, cond, Some, None, option_map, IfOk, OnOk};
+ghost use Rattle.std.specs.Prelude.{◌≡◌, ◌||◌, ◌++◌, [], map, cond, Some, None, IfOk, OnOk};
 ghost use Rattle.std.specs.BTreeMap.{get};
 ghost use Rattle.std.specs.BTreeSet as sorted;
+ghost use Rattle.std.specs.List.{list_any, filter_map, cons_option};
 ghost use Rattle.std.specs.List.Sorted.{IsStrictlySortedBy};
 ghost use Rattle.std.specs.Option.{option_or};
 ghost use Rattle.hops_base.specs.declared.ids.OpId.{OpId};
 ghost use Rattle.hops_base.specs.declared.ids.SessionId.{SessionId};
-ghost use Rattle.commit_log.specs.Parts.{passes, Flagging, flagged, flags_op};
+ghost use Rattle.commit_log.specs.Parts.{flagged, flags_op};
 ghost use Rattle.commit_log.specs.Places.{is_answer_of, is_past, reclaims_op};
-ghost use Rattle.commit_log.specs.Reads.{op_cmp, session_cmp, is_flagged, FlagsExactly};
-ghost use Rattle.commit_log.specs.Runs.{IsRuns, op_and_session, runs_on};
+ghost use Rattle.commit_log.specs.Reads.{op_cmp, session_cmp, FlagsExactly};
+ghost use Rattle.commit_log.specs.Runs.{IsRuns, op_and_session, runs_on, runs_as};
 
 use crate::note::{Note, Work};
 use hops_base::{NoMemory, OpId, SessionId};
@@ -25,31 +26,35 @@ pub struct Runs {
     answered: BTreeMap<SessionId, u64>,
 }
 
-/// The operations whose flags are set at the end of the notes, rising.
+/// The operations whose flags are set at the end of the notes, rising. One walk over the notes gathers
+/// every flag and what ends flags; what was gathered is then sifted.
 pub fn flagged_ops(alloc: Global, notes: &[Note]) -> Result<Vec<OpId>, NoMemory>
     ensures { IfOk result (λ ops. FlagsExactly notes.now ops.items) }
 {
-    let runs = runs_of(alloc, notes)?;
-    let ops = running_ops(alloc, notes, &runs)?;
+    let (runs, flags) = gather(alloc, notes)?;
+    let ops = running_ops(alloc, &runs, &flags)?;
     in_order(alloc, ops)
 }
 
-// Looks through the notes for what sets and ends flags.
-fn runs_of(alloc: Global, notes: &[Note]) -> Result<Runs, NoMemory>
-    ensures { IfOk result (λ runs. IsRuns notes.now runs) }
+// Gathers what sets and ends flags, and the operation and the session of each flag in their order.
+fn gather(alloc: Global, notes: &[Note]) -> Result<(Runs, Vec<(OpId, SessionId)>), NoMemory>
+    ensures runs { IfOk result (λ gathered. IsRuns notes.now gathered.0) }
+    ensures flags { IfOk result (λ gathered. gathered.1.items ≡ map op_and_session (filter_map flagged notes.now)) }
 {
     let mut runs = Runs {
         flagged: BTreeMap::new(alloc),
         reclaimed: BTreeMap::new(alloc),
         answered: BTreeMap::new(alloc),
     };
+    let mut flags = Vec::new(alloc);
     for (i, note) in notes.iter().enumerate() {
         let count = i as u64 + 1;
         mark_flag(&mut runs.flagged, count, note)?;
         mark_reclaim(&mut runs.reclaimed, count, note)?;
         mark_answer(&mut runs.answered, count, note)?;
+        add_flag(&mut flags, note)?;
     }
-    Ok(runs)
+    Ok((runs, flags))
 }
 
 // Keeps how many notes there are up to the first flag of each operation.
@@ -84,38 +89,44 @@ fn mark_answer(last: &mut BTreeMap<SessionId, u64>, count: u64, note: &Note) -> 
     Ok(())
 }
 
-// The operations of the flags that nothing has ended.
-fn running_ops(alloc: Global, notes: &[Note], runs: &Runs) -> Result<BTreeSet<OpId>, NoMemory>
-    requires { IsRuns notes.now runs.now }
-    ensures { IfOk result (λ ops. (op : OpId) → sorted.contains op_cmp ops op ≡ is_flagged notes.now op) }
+// Adds the operation whose flag the note sets, and its session.
+fn add_flag(flags: &mut Vec<(OpId, SessionId)>, note: &Note) -> Result<(), NoMemory>
+    ensures ok { OnOk result (flags.new.items ≡ flags.old.items ++ map op_and_session (cons_option (flagged note.now) [])) }
 {
-    let mut ops = BTreeSet::new(alloc);
-    for note in notes {
-        add_running(&mut ops, runs, note)?;
-    }
-    Ok(ops)
-}
-
-// Adds the operation whose flag the note sets, where nothing has ended it.
-fn add_running(ops: &mut BTreeSet<OpId>, runs: &Runs, note: &Note) -> Result<(), NoMemory>
-    ensures ok { OnOk result ((op : OpId) → sorted.contains op_cmp ops.new op ≡ (sorted.contains op_cmp ops.old op || passes (λ (f : Flagging). runs_on runs.now f.op f.session && (f.op.0 == op.0)) (flagged note.now))) }
-{
-    if let Some((op, s)) = flag_in(note) {
-        if is_running(runs, op, s) {
-            ops.insert(op)?;
-        }
+    if let Note::Wrote(s, Work::Flag(op, _, _)) = note {
+        flags.push((*op, *s))?;
     }
     Ok(())
 }
 
-// The operation whose flag the note sets, and its session.
-fn flag_in(note: &Note) -> Option<(OpId, SessionId)>
-    ensures { result ≡ option_map op_and_session (flagged note.now) }
+// The operations of the flags that nothing has ended.
+fn running_ops(
+    alloc: Global,
+    runs: &Runs,
+    flags: &[(OpId, SessionId)],
+) -> Result<BTreeSet<OpId>, NoMemory>
+    ensures { IfOk result (λ ops. (op : OpId) → sorted.contains op_cmp ops op ≡ list_any (runs_as runs.now op) flags.now) }
 {
-    match note {
-        Note::Wrote(s, Work::Flag(op, _, _)) => Some((*op, *s)),
-        _ => None,
+    let mut ops = BTreeSet::new(alloc);
+    for flag in flags {
+        add_running(&mut ops, runs, *flag)?;
     }
+    Ok(ops)
+}
+
+// Adds the operation of the flag, where nothing has ended it.
+fn add_running(
+    ops: &mut BTreeSet<OpId>,
+    runs: &Runs,
+    flag: (OpId, SessionId),
+) -> Result<(), NoMemory>
+    ensures ok { OnOk result ((op : OpId) → sorted.contains op_cmp ops.new op ≡ (sorted.contains op_cmp ops.old op || runs_as runs.now op flag)) }
+{
+    let (op, s) = flag;
+    if is_running(runs, op, s) {
+        ops.insert(op)?;
+    }
+    Ok(())
 }
 
 // Whether nothing has ended the operation of the session since its flag.

@@ -1,16 +1,16 @@
 //! The locks that are held.
 
-ghost use Rattle.std.specs.Prelude.{◌≡◌, ◌++◌, map, cond, Some, None, option_map, IfOk, OnOk};
+ghost use Rattle.std.specs.Prelude.{◌≡◌, [], ◌∷◌, ◌++◌, map, cond, Some, None, option_map, IfOk, OnOk};
 ghost use Rattle.std.specs.BTreeMap.{get};
+ghost use Rattle.std.specs.List.{filter};
 ghost use Rattle.std.specs.List.Sorted.{IsPermutation, IsSorted, IsStable};
 ghost use Rattle.std.specs.Option.{option_or};
 ghost use Rattle.hops_base.specs.declared.ids.NodeNo.{NodeNo};
 ghost use Rattle.hops_base.specs.declared.ids.SessionId.{SessionId};
 ghost use Rattle.commit_log.specs.Parts.{loses};
-ghost use Rattle.commit_log.specs.Locks.{held};
 ghost use Rattle.commit_log.specs.Places.{gives_all, is_past, opens_at};
-ghost use Rattle.commit_log.specs.Reads.{lock_of, lock_cmp, node_cmp, session_cmp, HoldsExactly};
-ghost use Rattle.commit_log.specs.Losses.{IsLosses, after, stays_on, kept_of};
+ghost use Rattle.commit_log.specs.Reads.{lock_cmp, node_cmp, session_cmp, HoldsExactly};
+ghost use Rattle.commit_log.specs.Losses.{IsLosses, after, stays_on, taken_at, taken_from, is_lasting, lock_in};
 
 use crate::note::Note;
 use hops_base::{Key, Mode, NoMemory, NodeNo, SessionId};
@@ -25,31 +25,42 @@ pub struct Losses {
     gone: BTreeMap<NodeNo, u64>,
 }
 
-/// The locks that are held at the end of the notes, by key and then by session.
+/// A lock that was taken, and how many notes there are up to the one that tells so.
+#[derive(Drop)]
+pub struct Taken {
+    count: u64,
+    lock: (SessionId, Key, Mode),
+}
+
+/// The locks that are held at the end of the notes, by key and then by session. One walk over the notes
+/// gathers every lock that was taken and what gives locks back; what was gathered is then sifted.
 pub fn held_locks(alloc: Global, notes: &[Note]) -> Result<Vec<(SessionId, Key, Mode)>, NoMemory>
     ensures { IfOk result (λ locks. HoldsExactly notes.now locks.items) }
 {
-    let losses = losses_of(alloc, notes)?;
-    let locks = lasting_locks(alloc, notes, &losses)?;
+    let (losses, takings) = gather(alloc, notes)?;
+    let locks = lasting_locks(alloc, &losses, takings)?;
     in_order(locks)
 }
 
-// Looks through the notes for what opens sessions and gives locks back.
-fn losses_of(alloc: Global, notes: &[Note]) -> Result<Losses, NoMemory>
-    ensures { IfOk result (λ losses. IsLosses notes.now losses) }
+// Gathers what opens sessions and gives locks back, and the locks that were taken in their order.
+fn gather(alloc: Global, notes: &[Note]) -> Result<(Losses, Vec<Taken>), NoMemory>
+    ensures losses { IfOk result (λ gathered. IsLosses notes.now gathered.0) }
+    ensures takings { IfOk result (λ gathered. gathered.1.items ≡ taken_from 0 notes.now) }
 {
     let mut losses = Losses {
         opened: BTreeMap::new(alloc),
         gave: BTreeMap::new(alloc),
         gone: BTreeMap::new(alloc),
     };
+    let mut takings = Vec::new(alloc);
     for (i, note) in notes.iter().enumerate() {
         let count = i as u64 + 1;
         mark_opening(&mut losses.opened, count, note)?;
         mark_giving(&mut losses.gave, count, note)?;
         mark_loss(&mut losses.gone, count, note)?;
+        add_taken(&mut takings, count, note)?;
     }
-    Ok(losses)
+    Ok((losses, takings))
 }
 
 // Keeps how many notes there are up to the opening of each session, and its namenode.
@@ -88,35 +99,43 @@ fn mark_loss(last: &mut BTreeMap<NodeNo, u64>, count: u64, note: &Note) -> Resul
     Ok(())
 }
 
+// Adds the lock that the note takes, and how many notes there are up to it.
+fn add_taken(takings: &mut Vec<Taken>, count: u64, note: &Note) -> Result<(), NoMemory>
+    ensures ok { OnOk result (takings.new.items ≡ takings.old.items ++ taken_at count note.now) }
+{
+    if let Note::Took(s, key, mode) = note {
+        let lock = (*s, key.copy()?, *mode);
+        takings.push(Taken { count, lock })?;
+    }
+    Ok(())
+}
+
 // The locks that nothing has given back, in the order in which they were taken.
 fn lasting_locks(
     alloc: Global,
-    notes: &[Note],
     losses: &Losses,
+    takings: Vec<Taken>,
 ) -> Result<Vec<(SessionId, Key, Mode)>, NoMemory>
-    requires { IsLosses notes.now losses.now }
-    ensures { IfOk result (λ locks. locks.items ≡ map lock_of (held notes.now)) }
+    ensures { IfOk result (λ locks. locks.items ≡ map lock_in (filter (is_lasting losses.now) takings.items)) }
 {
     let mut locks = Vec::new(alloc);
-    for (i, note) in notes.iter().enumerate() {
-        add_lasting(&mut locks, losses, i as u64 + 1, note)?;
+    for taken in takings {
+        add_lasting(&mut locks, losses, taken)?;
     }
     Ok(locks)
 }
 
-// Adds the lock that the note takes, where nothing has given it back.
+// Adds the lock that was taken, where nothing has given it back.
 fn add_lasting(
     locks: &mut Vec<(SessionId, Key, Mode)>,
     losses: &Losses,
-    count: u64,
-    note: &Note,
+    taken: Taken,
 ) -> Result<(), NoMemory>
-    ensures ok { OnOk result (locks.new.items ≡ locks.old.items ++ map lock_of (kept_of losses.now count note.now)) }
+    ensures ok { OnOk result (locks.new.items ≡ locks.old.items ++ map lock_in (filter (is_lasting losses.now) (taken ∷ []))) }
 {
-    if let Note::Took(s, key, mode) = note {
-        if stays_on(losses, count, *s) {
-            locks.push((*s, key.copy()?, *mode))?;
-        }
+    let Taken { count, lock } = taken;
+    if stays_on(losses, count, lock.0) {
+        locks.push(lock)?;
     }
     Ok(())
 }

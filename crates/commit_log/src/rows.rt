@@ -1,7 +1,7 @@
 //! Worked values of the words by which books are judged.
 
 ghost use Rattle.std.specs.Prelude.{◌≡◌, true, false, [], ◌∷◌, codes, map, take};
-ghost use Rattle.name_space.specs.declared.call.Call.TheVariants.{Mkdirs, Create, Delete, Rename};
+ghost use Rattle.name_space.specs.declared.call.Call.TheVariants.{Mkdirs, Delete, Rename};
 ghost use Rattle.name_space.specs.declared.call.OpKind.TheVariants as kind;
 ghost use Rattle.name_space.specs.declared.reply.Reply.TheVariants.{Truth, Refused};
 ghost use Rattle.name_space.specs.declared.reply.Exception.TheVariants.{FileNotFound};

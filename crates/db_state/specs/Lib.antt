@@ -19,6 +19,7 @@ pub mod Places
 pub mod Plan
 pub mod QuotaWriteLaws
 pub mod QuotaWrites
+pub mod ReadLaws
 pub mod Recounted
 pub mod RemoveLaws
 pub mod Settings

@@ -1,5 +1,5 @@
 -- Laws of rows of which one gets, changes or loses its quota row.
-use Rattle.std.proofs.Common.{◌≡◌, ◌≢◌, ◌⊎◌, ℕ, ◌+◌, Bool, true, false, ◌==◌, cond, List, reverse, Option, Some, None, IsSome, is_some, option_map, inl, inr, arith, refl, sym, ap, subst, ◌∙◌, eqb-true}
+use Rattle.std.proofs.Common.{◌≡◌, ◌≢◌, ◌⊎◌, ℕ, ◌+◌, Bool, true, false, ◌==◌, cond, reverse, Option, Some, None, IsSome, is_some, option_map, inl, inr, arith, refl, sym, ap, ◌∙◌, eqb-true}
 use Rattle.std.specs.FinMap as map
 use Rattle.std.specs.FinMap.Entries.{find-put}
 use Rattle.std.specs.Option.{option_or}

@@ -1,6 +1,5 @@
 -- The opening rows spell a tree, and stand for the opening namespace.
 use Rattle.std.proofs.Common.{◌≡◌, ℕ, cond, List, [], ◌∷◌, reverse, Some, None, is_some, option_map, inl, inr, arith, refl, sym, ap, ◌∙◌}
-use Rattle.std.specs.Option.{option_or}
 use Rattle.std.specs.FinMap as map
 use Rattle.std.specs.List.{IsDistinct}
 use Rattle.std.proofs.lemmas.List.{reverse-reverse}

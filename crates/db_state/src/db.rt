@@ -1,6 +1,6 @@
 //! The tables and the book.
 
-ghost use Rattle.std.specs.Prelude.{◌≡◌, ◌<◌, ◌≤◌, ◌^◌, true, Some, IfOk, IfSome, OnOk, OnErr, option_copied, slice_get};
+ghost use Rattle.std.specs.Prelude.{◌≡◌, ◌<◌, ◌≤◌, ◌^◌, Some, IfOk, IfSome, OnOk, OnErr, option_copied, slice_get};
 ghost use Rattle.std.specs.FinMap as map;
 ghost use Rattle.row_store.specs.Children.{child_count, IsChildren};
 ghost use Rattle.db_state.specs.State.{opening, root_key, root_row};

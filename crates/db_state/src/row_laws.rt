@@ -1,6 +1,6 @@
 //! Laws of the rows as one changes or goes, as a file comes, and of what quota rows count.
 
-ghost use Rattle.std.specs.Prelude.{true, ◌≡◌, ◌≢◌, ◌↔◌, ◌+◌, ℕ, Bool, false, List, Option, Some, None, [], ◌∷◌, ◌++◌, is_some, length, nat_lt, reverse, if◌then◌else◌, option_map, map as map_list};
+ghost use Rattle.std.specs.Prelude.{true, ◌≡◌, ◌≢◌, ◌+◌, ℕ, List, Some, None, [], ◌∷◌, ◌++◌, is_some, length, nat_lt, reverse, if◌then◌else◌, map as map_list};
 ghost use Rattle.std.specs.FinMap as map;
 ghost use Rattle.hops_base.specs.Path.{same_path};
 ghost use Rattle.hops_base.specs.declared.ids.ClientNo.{ClientNo};

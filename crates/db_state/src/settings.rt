@@ -1,6 +1,6 @@
 //! What a run is set up with.
 
-ghost use Rattle.std.specs.Prelude.{◌≡◌, IfOk, option_copied, slice_get, map};
+ghost use Rattle.std.specs.Prelude.{◌≡◌, IfOk, option_copied, slice_get};
 ghost use Rattle.db_state.specs.Settings.{IsSettings};
 
 use hops_base::{ClientNo, NoMemory, NodeNo, StopList, User, UserList};

@@ -1,5 +1,5 @@
 -- The texts of paths, a name at a time.
-use Rattle.std.proofs.Common.{◌≡◌, ℕ, ◌+◌, ◌≤◌, ◌<◌, ◌*◌, suc, Bool, true, false, not, cond, ◌&&◌, ◌||◌, ◌==◌, nat_lt, nat_le, List, [], ◌∷◌, ◌++◌, length, map, take, get_or, Option, Some, None, refl, ap, sym, ◌∙◌, append_assoc, append-nil, add-one, length-append, arith, zero, if◌then◌else◌, Result, Ok, Err, IfOk, inl, inr}
+use Rattle.std.proofs.Common.{◌≡◌, ℕ, ◌+◌, ◌≤◌, ◌<◌, ◌*◌, suc, Bool, true, false, not, cond, ◌&&◌, ◌||◌, ◌==◌, nat_lt, nat_le, List, [], ◌∷◌, ◌++◌, length, take, get_or, Option, Some, None, refl, ap, sym, ◌∙◌, append_assoc, append-nil, add-one, length-append, arith, zero, if◌then◌else◌, Result, Ok, Err, IfOk, inl, inr}
 use Rattle.std.proofs.lemmas.Bool.Decides.{nat_tests}
 use Rattle.std.specs.List.{list_all, list_any, slice_split, onto_first}
 use Rattle.std.specs.Option.{option_or}
@@ -8,7 +8,8 @@ use Rattle.std.proofs.Math.Seq.{take-suc}
 use Rattle.hops_base.specs.declared.path_text.PathFault.{PathFault}
 use Rattle.hops_base.specs.declared.path_text.PathFault.TheVariants.{EmptyName, Dot, Nul, NameTooLong}
 use Rattle.hops_base.specs.Name.{is_name, is_name_byte, same_name}
-use Rattle.hops_base.specs.Path.{joined, text_of, is_absolute, names_in, is_piece, name_fault, names_fault, path_fault, free_fault, is_short, IsNamesRead, IsPathRead}
+use Rattle.hops_base.specs.Path.{joined, text_of, is_absolute, names_in, is_piece, name_fault, names_fault, free_fault, is_short, IsNamesRead, IsPathRead}
+use Rattle.hops_base.specs.PathLaws.{text_of-names_in}
 
 -- one more name
 pub joined-push : (names : List (List ℕ)) (name : List ℕ) → joined (names ++ name ∷ []) ≡ joined names ++ 47 ∷ name
@@ -94,41 +95,11 @@ list_all-take p zero xs h = refl
 list_all-take p (suc n) [] h = refl
 list_all-take p (suc n) (x ∷ xs) h = elim (p x) as (λ t. (t && list_all p xs) ≡ true → (t && list_all p (take n xs)) ≡ true) [ true ↦ λ g. list_all-take p n xs g | false ↦ λ g. g ] h
 
--- the pieces of a text, each after a slash
-joined-split : (text : List ℕ) → joined (slice_split (λ b. b == 47) text) ≡ 47 ∷ text
-joined-split [] = refl
-joined-split (b ∷ text) =
-    elim (b == 47) as (λ t. (b == 47) ≡ t → joined (cond t ([] ∷ slice_split (λ b. b == 47) text) (onto_first b (slice_split (λ b. b == 47) text))) ≡ 47 ∷ b ∷ text) [
-      | true ↦ λ e. let same : b ≡ 47 = grind (arith, nat_tests) in let rest = joined-split text in cc
-      | false ↦ λ e. onto (slice_split (λ b. b == 47) text) (joined-split text)
-    ] refl
-  where
-    onto : (parts : List (List ℕ)) → joined parts ≡ 47 ∷ text → joined (onto_first b parts) ≡ 47 ∷ b ∷ text
-    onto [] h = cc
-    onto (part ∷ parts) h = let rest : (part ++ joined parts) ≡ text = cc in cc
-
-text_of-joined : (names : List (List ℕ)) (text : List ℕ) → joined names ≡ 47 ∷ text → text_of names ≡ 47 ∷ text
-text_of-joined [] text h = cc
-text_of-joined (name ∷ names) text h = h
-
--- the names in an absolute text give the text back
-pub text_of-names_in : (text : List ℕ) → is_absolute text ≡ true → text_of (names_in text) ≡ text
-text_of-names_in [] h = cc
-text_of-names_in (b ∷ []) h = let same : b ≡ 47 = grind (arith, nat_tests) in cc
-text_of-names_in (b ∷ next ∷ rest) h = let same : b ≡ 47 = grind (arith, nat_tests) in text_of-joined _ (next ∷ rest) (joined-split (next ∷ rest)) ∙ ap (λ (c : ℕ). c ∷ next ∷ rest) (sym same)
-
 -- what comes of reading the names is what comes of reading the text
 pub read_by_names : (fault : Option PathFault) (text : List ℕ) (names : List (List ℕ)) (r : Result (List (List ℕ)) PathFault) → is_absolute text ≡ true → names ≡ names_in text → fault ≡ names_fault 0 (names_in text) → IsNamesRead names r → IsPathRead fault text r
 read_by_names fault text names (Ok path) absolute is told read = (rw (told, ← is) read.0, read.1 ∙ is, ap text_of (read.1 ∙ is) ∙ text_of-names_in text absolute)
 read_by_names fault text names (Err e) absolute is told (inl memory) = inl memory
 read_by_names fault text names (Err e) absolute is told (inr read) = inr (rw (told, ← is) read)
-
--- a text that is neither too long nor relative nor too deep has the fault of its first bad name
-pub fault_of_short : (text : List ℕ) → length text ≤ 8000 → is_absolute text ≡ true → length (names_in text) ≤ 1000 → path_fault text ≡ names_fault 0 (names_in text)
-fault_of_short text short absolute few = rw (not_above 8000 (length text) short, absolute, not_above 1000 (length (names_in text)) few) refl
-  where
-    not_above : (m n : ℕ) → n ≤ m → nat_lt m n ≡ false
-    not_above m n h = grind (arith, nat_tests)
 
 -- the path of a text that is neither too long nor too deep is short
 pub short_when_read : (text : List ℕ) (names : List (List ℕ)) (r : Result (List (List ℕ)) PathFault) → length text ≤ 8000 → length names ≤ 1000 → is_absolute text ≡ true → names ≡ names_in text → IsNamesRead names r → IfOk r (λ path. is_short path ≡ true)

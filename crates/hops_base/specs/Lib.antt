@@ -3,6 +3,7 @@ pub mod First
 pub mod Key
 pub mod Name
 pub mod Path
+pub mod PathLaws
 pub mod Roomy
 pub mod Tells
 pub mod User

@@ -11,7 +11,7 @@ use Rattle.name_space.specs.declared.call.Call.TheVariants as call
 use Rattle.name_space.specs.declared.reply.Reply.{Reply}
 use Rattle.name_space.specs.Call.{paths_of, is_valid}
 use Rattle.name_space.specs.Namespace.{Path}
-use Rattle.name_space.specs.UsageLaws.{total-is}
+use Rattle.name_space.specs.SumLaws.{total-is}
 use Rattle.commit_log.specs.declared.note.Note.{Note}
 use Rattle.commit_log.specs.declared.answer.CallEnd.TheVariants.{Done}
 use Rattle.commit_log.specs.Legal.{space}
@@ -34,6 +34,7 @@ use Rattle.hops_cli.specs.Built.{is_built}
 use Rattle.inode_ops.specs.Table.{IsAnswer, IsCallsTable}
 use Rattle.inode_ops.specs.Outcomes.{CanRaise, CanMake, path_of, IsViewOf}
 use Rattle.hops_cli.specs.Reading.{IsFound, IsViewAt}
+use Rattle.hops_cli.specs.Run.{rows_read}
 use Rattle.hops_cli.specs.Turning.{IsReady, IsTurned}
 use Rattle.hops_cli.proofs.CurrentLemmas.{view_current}
 
@@ -88,8 +89,8 @@ few_ids state user asked view reads reply writes small valid read answer =
 -- and with it the call is answered
 pub turned_by : (old new : State) (number : ℕ) (asked : Call) (reads : ℕ) (reply told : Reply) (notes : List Note) (writes : List (Key × Option Row)) (count : ℕ)
     → new ≡ committed old writes notes → notes ≡ opens_turn number ∷ does_turn number (record { call = asked; reads = reads; reply = reply }) ∷ [] → count ≡ length new.notes → told ≡ reply → next_after old.next writes ≤ old.next + 1000
-    → IsTurned old new number asked (Done (count - 1) told)
-turned_by old new number asked reads reply told notes writes count is are counted copied few =
+    → reads ≡ sum_by (rows_read (space old.users old.notes)) (paths_of asked) → IsTurned old new number asked (Done (count - 1) told)
+turned_by old new number asked reads reply told notes writes count is are counted copied few read =
     let book : new.notes ≡ old.notes ++ opens_turn number ∷ does_turn number (record { call = asked; reads = reads; reply = reply }) ∷ [] = ap (λ (s : State). s.notes) is ∙ ap (λ (ns : List Note). old.notes ++ ns) are in
     let long : count ≡ length old.notes + 2 = counted ∙ ap length book ∙ length-append old.notes (opens_turn number ∷ does_turn number (record { call = asked; reads = reads; reply = reply }) ∷ []) in
     let last : count - 1 ≡ length old.notes + 1 = omega arith in
@@ -99,6 +100,7 @@ turned_by old new number asked reads reply told notes writes count is are counte
       reply = reply;
       notes = book;
       told = ap (λ (n : ℕ). Done n told) last ∙ ap (Done (length old.notes + 1)) copied;
+      counted = read;
       users = ap (λ (s : State). s.users) is;
       few = omega arith;
     }

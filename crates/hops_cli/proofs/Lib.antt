@@ -3,6 +3,7 @@ pub mod CallLemmas
 pub mod CurrentLemmas
 pub mod LimitLemmas
 pub mod LoopLemmas
+pub mod ReadLemmas
 pub mod ReadingLemmas
 pub mod ReportLemmas
 pub mod RunLemmas

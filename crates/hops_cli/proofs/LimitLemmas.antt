@@ -18,7 +18,6 @@ use Rattle.name_space.specs.Calls.{plain}
 use Rattle.commit_log.specs.Legal.{applied, space, space_from}
 use Rattle.commit_log.specs.OneClient.{Turn, calls_made, turns_book}
 use Rattle.commit_log.specs.Samples.{client}
-use Rattle.hops_base.specs.Path.{path_cmp}
 use Rattle.hops_cli.specs.Built.{is_built}
 use Rattle.hops_cli.specs.Turning.{has_limit, IsLimitless}
 

@@ -1,21 +1,25 @@
 -- The calls of the one client are answered in turn.
-use Rattle.std.proofs.Common.{◌≡◌, ℕ, ◌+◌, ◌*◌, ◌≤◌, ◌<◌, zero, suc, Bool, true, false, ◌&&◌, nat_le, List, [], ◌∷◌, ◌++◌, length, take, get_or, slice_get, refl, ap, sym, subst, ◌∙◌, arith, add-one}
-use Rattle.std.specs.List.{list_all}
+use Rattle.std.proofs.Common.{◌≡◌, ℕ, ◌+◌, ◌*◌, ◌≤◌, ◌<◌, zero, suc, Bool, true, false, ◌&&◌, nat_le, List, [], ◌∷◌, ◌++◌, length, take, get_or, slice_get, refl, ap, sym, subst, ◌∙◌, arith, add-one, append_assoc}
+use Rattle.std.specs.List.{list_all, sum_by}
 use Rattle.std.specs.Cmp.{first_so, second_so}
 use Rattle.std.proofs.Math.Seq.{take-suc}
 use Rattle.std.proofs.lemmas.Bool.Decides.{nat_tests}
 use Rattle.name_space.specs.Script.{ClientCalls, is_client, most_calls}
 use Rattle.name_space.specs.declared.call.Call.{Call}
+use Rattle.name_space.specs.Call.{paths_of}
+use Rattle.name_space.specs.Namespace.{Namespace}
 use Rattle.commit_log.specs.declared.note.Note.{Note}
 use Rattle.commit_log.specs.declared.answer.AnswerLine.{AnswerLine}
 use Rattle.commit_log.specs.declared.answer.CallEnd.{CallEnd}
 use Rattle.commit_log.specs.declared.answer.CallEnd.TheVariants.{Done}
-use Rattle.commit_log.specs.Legal.{space}
+use Rattle.commit_log.specs.Along.{Each, Each-none, Each-push}
+use Rattle.commit_log.specs.Legal.{space, space-push}
 use Rattle.commit_log.specs.Samples.{client}
 use Rattle.commit_log.specs.OneClient.{Turn, calls_made, opens_turn, does_turn, turns_book, turn_line, turns_lines}
 use Rattle.commit_log.specs.OneClientLaws.{turns_book-push, turns_lines-push, calls_made-push, length-turns_book}
 use Rattle.db_state.specs.State.{State}
 use Rattle.hops_cli.specs.Built.{is_built}
+use Rattle.hops_cli.specs.Run.{rows_read, TellsReads}
 use Rattle.hops_cli.specs.Turning.{IsLimitless, IsNew, IsReady, IsTurned, AreTurned}
 use Rattle.hops_cli.proofs.LimitLemmas.{turns_limitless}
 
@@ -33,7 +37,15 @@ all_take (suc count) (one ∷ calls) e = both (is_built one) (list_all is_built 
 pub none_turned : (user : List ℕ) (calls : List Call) (state : State) (lines : List AnswerLine) → IsNew (user ∷ []) state lines → AreTurned (user ∷ []) calls 0 state lines
 none_turned user calls state lines new =
     let next : state.next ≡ 2 = new.next in
-    record { turns = []; made = refl; notes = new.book; told = new.none; acting = new.acting; few = omega arith }
+    record {
+      turns = [];
+      made = refl;
+      notes = new.book;
+      told = new.none;
+      reads = subst (λ (notes : List Note). Each (TellsReads (user ∷ [])) notes) (sym new.book) (Each-none (TellsReads (user ∷ [])));
+      acting = new.acting;
+      few = omega arith;
+    }
 
 -- the next call can be answered
 pub ready : (user : List ℕ) (calls : List Call) (count : ℕ) (state : State) (lines : List AnswerLine) → list_all is_built calls ≡ true → count ≤ 65536 → AreTurned (user ∷ []) calls count state lines → IsReady state user
@@ -45,6 +57,17 @@ ready user calls count state lines runnable few so_far =
       limitless = subst (λ (notes : List Note). IsLimitless (space state.users notes)) (sym so_far.notes) (turns_limitless state.users so_far.turns runs);
       room = omega arith;
     }
+
+-- the notes that open and answer it tell the rows read for its path
+read_more : (users : List (List ℕ)) (old new : State) (number : ℕ) (asked : Call) (end : CallEnd) → old.users ≡ users → Each (TellsReads users) old.notes → IsTurned old new number asked end → Each (TellsReads users) new.notes
+read_more users old new number asked end acting so_far turn =
+    let this : Turn = record { call = asked; reads = turn.reads; reply = turn.reply } in
+    let read : turn.reads ≡ sum_by (rows_read (space users (old.notes ++ opens_turn number ∷ []))) (paths_of asked) =
+    turn.counted
+    ∙ ap (λ (us : List (List ℕ)). sum_by (rows_read (space us old.notes)) (paths_of asked)) acting
+    ∙ sym (ap (λ (before : Namespace). sum_by (rows_read before) (paths_of asked)) (space-push users old.notes (opens_turn number))) in
+    subst (Each (TellsReads users)) (append_assoc old.notes (opens_turn number ∷ []) (does_turn number this ∷ []) ∙ sym turn.notes)
+    (Each-push (TellsReads users) (old.notes ++ opens_turn number ∷ []) (does_turn number this) (Each-push (TellsReads users) old.notes (opens_turn number) so_far tt) read)
 
 -- once it is answered, one call more is
 pub turned : (users : List (List ℕ)) (calls : List Call) (count : ℕ) (old new : State) (lines after : List AnswerLine) (asked : Call) (end : CallEnd)
@@ -75,6 +98,7 @@ turned users calls count old new lines after asked end within is so_far turn pus
           ∙ ap (λ (ls : List AnswerLine). ls ++ record { client = client 0; call = count + 1; end = end } ∷ []) so_far.told
           ∙ ap (λ (l : AnswerLine). turns_lines 0 so_far.turns ++ l ∷ []) line
           ∙ sym (turns_lines-push so_far.turns this);
+      reads = read_more users old new (count + 1) asked end so_far.acting so_far.reads turn;
       acting = turn.users ∙ so_far.acting;
       few = omega arith;
     }

@@ -1,11 +1,11 @@
 -- What a run leaves makes a report.
-use Rattle.std.proofs.Common.{◌≡◌, ℕ, Bool, true, cond, ◌&&◌, List, [], ◌∷◌, slice_get, Option, Some, None, option_map, refl}
+use Rattle.std.proofs.Common.{◌≡◌, ℕ, true, List, [], ◌∷◌, slice_get, Some, None, option_map, refl}
 use Rattle.std.specs.FinMap.Entries as entries
 use Rattle.std.specs.Cmp.{first_so, second_so}
 use Rattle.hops_base.specs.Path.{path_cmp}
 use Rattle.name_space.specs.Script.{Script}
 use Rattle.name_space.specs.declared.entry.Entry.{Entry}
-use Rattle.name_space.specs.Namespace.{Namespace, Path, IsNamespace, entry_at, is_dir}
+use Rattle.name_space.specs.Namespace.{Namespace, Path, entry_at, is_dir}
 use Rattle.commit_log.specs.declared.note.Note.{Note}
 use Rattle.commit_log.specs.declared.answer.AnswerLine.{AnswerLine}
 use Rattle.report_text.specs.IsReport.{IsReport}

@@ -8,13 +8,14 @@ use Rattle.name_space.specs.Calls.{as_read, replies_of, space_after}
 use Rattle.name_space.specs.Script.{Script, ClientCalls, users_of}
 use Rattle.commit_log.specs.declared.note.Note.{Note}
 use Rattle.commit_log.specs.declared.answer.AnswerLine.{AnswerLine}
+use Rattle.commit_log.specs.Along.{Each, Each-none}
 use Rattle.commit_log.specs.Legal.{Legal, space, space-none}
 use Rattle.commit_log.specs.Samples.{client}
 use Rattle.commit_log.specs.OneClient.{Turn, calls_made, replies_told, turns_book, turns_lines, MadeBy, IsSingleRun}
 use Rattle.commit_log.specs.OneClientLaws.{single_told, single_kept, replies-from_legal, space-turns_book, made-none, made-one}
 use Rattle.db_state.specs.State.{State}
 use Rattle.hops_cli.specs.Built.{IsBuilt}
-use Rattle.hops_cli.specs.Run.{reply_in, IsPlainRun, IsRun}
+use Rattle.hops_cli.specs.Run.{reply_in, TellsReads, IsPlainRun, IsRun}
 use Rattle.hops_cli.specs.Turning.{AreTurned, AreAllTurned}
 
 -- the lines of turns tell their replies
@@ -31,15 +32,16 @@ single script turns small made = record {
 
 -- what these turns leave is a run, once its replies are those of the plain calls
 turns_run : (script : Script) (turns : List Turn) (notes : List Note) (lines : List AnswerLine) (tree : Namespace) → IsBuilt script → MadeBy script.clients turns
-    → notes ≡ turns_book 0 turns → lines ≡ turns_lines 0 turns → Legal (users_of script) notes → IsNamespace tree → tree ≡ space (users_of script) notes
+    → notes ≡ turns_book 0 turns → lines ≡ turns_lines 0 turns → Legal (users_of script) notes → IsNamespace tree → Each (TellsReads (users_of script)) notes → tree ≡ space (users_of script) notes
     → IsPlainRun script.clients (turns_lines 0 turns) (space (users_of script) (turns_book 0 turns)) → IsRun script notes lines tree
-turns_run script turns notes lines tree small made book told legal names shown plain =
+turns_run script turns notes lines tree small made book told legal names reads shown plain =
     let is = single script turns small made in
     let same : tree ≡ space (users_of script) (turns_book 0 turns) = shown ∙ ap (space (users_of script)) book in
     let run : IsRun script (turns_book 0 turns) (turns_lines 0 turns) (space (users_of script) (turns_book 0 turns)) = record {
       told = single_told script turns (space (users_of script) (turns_book 0 turns)) is (subst (Legal (users_of script)) book legal) refl;
       kept = single_kept script turns is;
       names = subst IsNamespace same names;
+      reads = subst (Each (TellsReads (users_of script))) book reads;
       plain = plain;
     } in
     subst (λ (t : Namespace). IsRun script notes lines t) (sym same)
@@ -50,7 +52,8 @@ turns_run script turns notes lines tree small made book told legal names shown p
 run_none : (script : Script) (notes : List Note) (lines : List AnswerLine) (tree : Namespace) → IsBuilt script → script.clients ≡ [] → notes ≡ [] → lines ≡ []
     → Legal (users_of script) notes → IsNamespace tree → tree ≡ space (users_of script) notes → IsRun script notes lines tree
 run_none script notes lines tree small none book told legal names shown =
-    turns_run script [] notes lines tree small (made-none script.clients [] none refl) book told legal names shown
+    turns_run script [] notes lines tree small (made-none script.clients [] none refl) book told legal names
+    (subst (Each (TellsReads (users_of script))) (sym book) (Each-none (TellsReads (users_of script)))) shown
     (subst (λ (cs : List ClientCalls). IsPlainRun cs [] (space (list_map (λ (c : ClientCalls). c.user) cs) [])) (sym none) (refl, space-none []))
 
 -- the run of one client all of whose calls were answered
@@ -65,7 +68,8 @@ run_one script one state lines tree small is done legal names shown =
     lines_tell 0 turns ∙ ap (list_map Some) (replies-from_legal one.user turns lawful) ∙ ap (λ (cs : List Call). list_map Some (replies_of opening (client 0) one.user cs)) (sym calls) in
     let last : space (one.user ∷ []) (turns_book 0 turns) ≡ space_after opening (client 0) one.user one.calls =
     space-turns_book one.user turns ∙ ap (space_after opening (client 0) one.user) (sym calls) in
-    turns_run script turns state.notes lines tree small (made-one script.clients one turns is calls) done.notes done.told legal names shown
+    turns_run script turns state.notes lines tree small (made-one script.clients one turns is calls) done.notes done.told legal names
+    (subst (λ (us : List (List ℕ)). Each (TellsReads us) state.notes) (sym users) done.reads) shown
     (subst (λ (cs : List ClientCalls). IsPlainRun cs (turns_lines 0 turns) (space (list_map (λ (c : ClientCalls). c.user) cs) (turns_book 0 turns))) (sym is) (replies, last))
 
 -- the run of a small script all of whose calls were answered

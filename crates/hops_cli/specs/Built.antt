@@ -1,5 +1,5 @@
 -- Which scripts need nothing but what is built. This project's own.
-use Rattle.std.specs.Prelude.{◌≡◌, ℕ, ◌+◌, ◌≤◌, Bool, true, false, not, ◌&&◌, ◌==◌, nat_le, if◌then◌else◌, List, [], length, map, Option, Some, None, option_map}
+use Rattle.std.specs.Prelude.{◌≡◌, ℕ, ◌+◌, ◌≤◌, Bool, true, false, not, ◌&&◌, ◌==◌, nat_le, if◌then◌else◌, List, [], length, map, Option, Some, option_map}
 use Rattle.std.specs.List.{list_all, position_from, enumerate_from}
 use Rattle.hops_base.specs.First.{first_some}
 use Rattle.name_space.specs.declared.call.Call.{Call}

@@ -1,13 +1,18 @@
 -- What the report of a run tells. This project's own.
-use Rattle.std.specs.Prelude.{◌≡◌, ℕ, List, [], ◌∷◌, map, Option, Some, None}
-use Rattle.name_space.specs.Namespace.{Namespace, IsNamespace, opening}
+use Rattle.std.specs.Prelude.{◌≡◌, ℕ, List, [], ◌∷◌, length, map, Option, Some, None, ⊤}
+use Rattle.std.specs.List.{filter, sum_by}
+use Rattle.name_space.specs.Call.{paths_of}
+use Rattle.name_space.specs.Namespace.{Namespace, Path, IsNamespace, entry_at, is_dir, above, opening}
 use Rattle.name_space.specs.Calls.{as_read, replies_of, space_after}
-use Rattle.name_space.specs.Script.{Script, ClientCalls}
+use Rattle.name_space.specs.Script.{Script, ClientCalls, users_of}
 use Rattle.name_space.specs.declared.reply.Reply.{Reply}
 use Rattle.commit_log.specs.declared.note.Note.{Note}
+use Rattle.commit_log.specs.declared.note.Note.TheVariants.{Open, Took, Gave, Wrote, Did, Cut, Met, Gone}
 use Rattle.commit_log.specs.declared.answer.AnswerLine.{AnswerLine}
 use Rattle.commit_log.specs.declared.answer.CallEnd.{CallEnd}
 use Rattle.commit_log.specs.declared.answer.CallEnd.TheVariants.{Done, Again, NoNamenode}
+use Rattle.commit_log.specs.Along.{Each}
+use Rattle.commit_log.specs.Legal.{space}
 use Rattle.commit_log.specs.Told.{Told}
 use Rattle.commit_log.specs.Kept.{KeptWithoutLocks}
 use Rattle.commit_log.specs.Samples.{client}
@@ -27,12 +32,30 @@ IsPlainRun (one ∷ []) lines tree =
     (map (λ (line : AnswerLine). reply_in line.end) lines ≡ map Some (replies_of opening (client 0) one.user one.calls)) × (tree ≡ space_after opening (client 0) one.user one.calls)
 IsPlainRun (one ∷ other ∷ more) lines tree = ⊥
 
+-- the rows that the resolution of a path reads: in each directory above the path one, under its next name, there or
+-- missing
+abbrev pub rows_read : Namespace → Path → ℕ
+rows_read space path = length (filter (λ (up : Path). is_dir (entry_at space up)) (above path))
+
+-- where the note answers a call, its `reads` are the rows read for the call's path in the namespace before it: each call
+-- was resolved once
+abbrev pub TellsReads : List (List ℕ) → List Note → Note → Type 0
+TellsReads users before (Open s client number node) = ⊤
+TellsReads users before (Took s key mode) = ⊤
+TellsReads users before (Gave s) = ⊤
+TellsReads users before (Wrote s work) = ⊤
+TellsReads users before (Did s client number call reads reply) = reads ≡ sum_by (rows_read (space users before)) (paths_of call)
+TellsReads users before (Cut op path gone) = ⊤
+TellsReads users before (Met s cause) = ⊤
+TellsReads users before (Gone node ended) = ⊤
+
 -- the book, the answers and the tree of a script's run: they tell one legal history of it, which leads to a namespace,
--- and the replies and that namespace are those of the plain calls
+-- each answer tells the rows read for its path, and the replies and that namespace are those of the plain calls
 pub record IsRun (script : Script) (notes : List Note) (lines : List AnswerLine) (tree : Namespace) : Type 0 where
   pub told : Told script notes lines tree
   pub kept : KeptWithoutLocks script notes lines
   pub names : IsNamespace tree
+  pub reads : Each (TellsReads (users_of script)) notes
   pub plain : IsPlainRun script.clients lines tree
 
 -- the text is the report of a run of the script, and nothing else

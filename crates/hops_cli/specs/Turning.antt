@@ -1,17 +1,21 @@
 -- What a run's calls make of the tables and the book. This project's own.
 use Rattle.std.specs.Prelude.{◌≡◌, ℕ, ◌+◌, ◌*◌, ◌<◌, ◌≤◌, ◌^◌, Bool, false, ◌||◌, List, [], ◌∷◌, ◌++◌, map, length, take, slice_get, Option, Some, None, is_some}
+use Rattle.std.specs.List.{sum_by}
 use Rattle.name_space.specs.declared.call.Call.{Call}
 use Rattle.name_space.specs.declared.entry.Entry.{Entry}
 use Rattle.name_space.specs.declared.entry.Entry.TheVariants.{Dir, File}
 use Rattle.name_space.specs.declared.reply.Reply.{Reply}
+use Rattle.name_space.specs.Call.{paths_of}
 use Rattle.name_space.specs.Script.{ClientCalls}
 use Rattle.name_space.specs.Namespace.{Namespace, Path, entry_at}
 use Rattle.commit_log.specs.declared.answer.AnswerLine.{AnswerLine}
 use Rattle.commit_log.specs.declared.answer.CallEnd.{CallEnd}
 use Rattle.commit_log.specs.declared.answer.CallEnd.TheVariants.{Done}
+use Rattle.commit_log.specs.Along.{Each}
 use Rattle.commit_log.specs.Legal.{space}
 use Rattle.commit_log.specs.OneClient.{Turn, calls_made, opens_turn, does_turn, turns_book, turns_lines}
 use Rattle.db_state.specs.State.{State}
+use Rattle.hops_cli.specs.Run.{rows_read, TellsReads}
 
 -- the entry has a quota
 abbrev pub has_limit : Option Entry → Bool
@@ -40,21 +44,23 @@ pub record IsReady (state : State) (user : List ℕ) : Type 0 where
   pub limitless : IsLimitless (space state.users state.notes)
   pub room : state.next + 1000 < 2 ^ 64
 
--- one commit opened and answered the call of this number
+-- one commit opened and answered the call of this number, and tells the rows read for its path
 pub record IsTurned (old new : State) (number : ℕ) (call : Call) (end : CallEnd) : Type 0 where
   pub reads : ℕ
   pub reply : Reply
   pub notes : new.notes ≡ old.notes ++ opens_turn number ∷ does_turn number (record { call = call; reads = reads; reply = reply }) ∷ []
   pub told : end ≡ Done (length old.notes + 1) reply
+  pub counted : reads ≡ sum_by (rows_read (space old.users old.notes)) (paths_of call)
   pub users : new.users ≡ old.users
   pub few : new.next ≤ old.next + 1000
 
--- so many of the calls have been answered, and nothing else was written
+-- so many of the calls have been answered, each telling the rows read for its path, and nothing else was written
 pub record AreTurned (users : List (List ℕ)) (calls : List Call) (count : ℕ) (state : State) (lines : List AnswerLine) : Type 0 where
   pub turns : List Turn
   pub made : calls_made turns ≡ take count calls
   pub notes : state.notes ≡ turns_book 0 turns
   pub told : lines ≡ turns_lines 0 turns
+  pub reads : Each (TellsReads users) state.notes
   pub acting : state.users ≡ users
   pub few : state.next ≤ 2 + 1000 * count
 

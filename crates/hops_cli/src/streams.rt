@@ -1,7 +1,6 @@
 //! Readers and writers as sources and sinks. They don't tell what they have left or hold.
 
-ghost use Rattle.std.specs.Prelude.{◌≡◌, ◌≤◌, IfOk, length};
-ghost use Rattle.hops_base.specs.Devices.{Hands, Keeps};
+ghost use Rattle.std.specs.Prelude.{◌≡◌, IfOk};
 
 use hops_base::{Given, NoMemory, Sink, Source, Taken};
 use std::alloc::Global;

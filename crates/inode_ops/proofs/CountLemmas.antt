@@ -1,17 +1,14 @@
 -- The counts of quota rows once directories are made and the quota rows above them raised.
-use Rattle.std.proofs.Common.{◌≡◌, ℕ, ◌+◌, ◌≤◌, Bool, true, false, cond, List, [], ◌∷◌, length, reverse, Option, Some, None, IsSome, is_some, option_map, ◌⊎◌, arith, refl, sym, ap, subst, ◌∙◌, inl, inr, append-nil}
+use Rattle.std.proofs.Common.{◌≡◌, ℕ, ◌+◌, Bool, true, false, cond, List, [], ◌∷◌, length, reverse, Option, Some, None, IsSome, is_some, option_map, ◌⊎◌, refl, sym, ap, subst, ◌∙◌, inl, inr, append-nil}
 use Rattle.std.proofs.lemmas.Bool.{true≢false, false_from_ne_true}
 use Rattle.std.proofs.lemmas.List.{reverse-reverse}
-use Rattle.std.specs.FinMap as map
 use Rattle.hops_base.specs.declared.ids.InodeId.{InodeId}
 use Rattle.hops_base.specs.declared.ids.Mode.{Mode}
 use Rattle.hops_base.specs.declared.key.Key.{Key}
-use Rattle.hops_base.specs.declared.key.Key.TheVariants as key
-use Rattle.hops_base.specs.Tells.{paths_tell}
 use Rattle.name_space.specs.declared.entry.Entry.{Entry}
 use Rattle.name_space.specs.declared.entry.Entry.TheVariants as entry
 use Rattle.name_space.specs.Namespace as spaces
-use Rattle.name_space.specs.Namespace.{Namespace, Path, entry_at, exists, is_within, missing, used_names, used_bytes}
+use Rattle.name_space.specs.Namespace.{Namespace, Path, entry_at, is_within, missing, used_names, used_bytes}
 use Rattle.name_space.specs.Cut.{is_among}
 use Rattle.name_space.specs.Plain.{with_dirs}
 use Rattle.name_space.specs.NamespaceLaws.{entry_at-with_dirs}
@@ -20,38 +17,15 @@ use Rattle.inode_table.specs.declared.inode.Inode.{Inode}
 use Rattle.inode_table.specs.declared.inode.Kind.{Kind}
 use Rattle.inode_table.specs.declared.inode.Kind.TheVariants.{Dir, File}
 use Rattle.quota_table.specs.declared.quota.QuotaRow.{QuotaRow}
-use Rattle.db_state.specs.State.{Tables, new_dir}
-use Rattle.db_state.specs.Spelled.{Inodes, child_of, row_of, spelled, IsTree}
+use Rattle.db_state.specs.State.{Tables}
+use Rattle.db_state.specs.Spelled.{Inodes, row_of, spelled}
 use Rattle.db_state.specs.Stands.{Quotas, quota_of, entry_of, entry_of_kind, Stands}
 use Rattle.db_state.specs.Counts.{Counts}
-use Rattle.db_state.specs.Written.{written}
 use Rattle.db_state.specs.declared.view.Place.{Place}
-use Rattle.db_state.specs.NewDirs.{new_dirs, FirstMissing}
-use Rattle.db_state.specs.PathLaws.{tree_grown, inserted}
-use Rattle.db_state.specs.ChainLaws.{new_spelled, under_new}
 use Rattle.inode_ops.specs.Steps.{raised, has_id}
 use Rattle.inode_ops.proofs.WalkLemmas.{found_above, found_within}
 use Rattle.inode_ops.proofs.RaiseLemmas.{IsRaisedIn, same_limits}
 use Rattle.inode_ops.proofs.PlaceLemmas.{IsSet}
-
--- what a path spelled it spells still once new directories are there
-pub still_chained : (names : List (List ℕ)) (tables : Tables) (next : ℕ) (tree : IsTree tables.inodes next) (dir : List (List ℕ)) (parent : Inode) (owner : List ℕ) → spelled tables.inodes dir ≡ Some parent → parent.kind ≡ Dir → FirstMissing tables.inodes parent.id names
-    → (up : List (List ℕ)) (x : Inode) → spelled tables.inodes up ≡ Some x → spelled (written tables (new_dirs parent.id.0 next owner names)).inodes up ≡ Some x
-still_chained [] tables next tree dir parent owner at is_dir none up x there = there
-still_chained (name ∷ names) tables next tree dir parent owner at is_dir none up x there =
-    let new : Inode = new_dir next owner in
-    let free : next ≤ new.id.0 = omega arith in
-    let grown = tree_grown tables.inodes next tree dir parent name new at none free is_dir in
-    let here = new_spelled tables.inodes next tree dir parent name new at none free in
-    let still : spelled (map.insert tables.inodes (key.Inode parent.id name) new) up ≡ Some x =
-    inserted tables.inodes next tree dir parent name new at none free up ∙ (elim (paths_tell up (name ∷ dir)) [
-      | inl h ↦ absurd (
-          let gone : spelled tables.inodes up ≡ None = ap (spelled tables.inodes) h.1 ∙ ap (child_of tables.inodes name) at ∙ none in
-          let bad : None ≡ Some x = sym gone ∙ there in
-          cc)
-      | inr h ↦ rw h.0 there
-    ]) in
-    still_chained names (record { inodes = map.insert tables.inodes (key.Inode parent.id name) new; quotas = tables.quotas }) (next + 1) grown (name ∷ dir) new owner here refl (under_new names tables.inodes next tree dir parent name new at none free) up x still
 
 -- a new directory has no limits
 max_names_of : Entry → Option ℕ

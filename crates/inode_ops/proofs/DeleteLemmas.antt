@@ -46,13 +46,13 @@ use Rattle.db_state.specs.declared.outcome.Outcome.TheVariants.{Answer, Subtree}
 use Rattle.db_state.specs.declared.view.Place.{Place}
 use Rattle.db_state.specs.declared.view.View.{View}
 use Rattle.db_state.specs.declared.writes.Row.{Row}
+use Rattle.db_state.specs.FileLaws.{written-append, next_after-append}
 use Rattle.inode_ops.specs.Outcomes.{IsViewOf}
 use Rattle.inode_ops.specs.LowerSteps.{AreQuotasFound, GoesOnLowered}
 use Rattle.inode_table.specs.Inode.{counted_bytes}
 use Rattle.inode_ops.specs.DeleteSteps.{removals, RemovesLast, DeleteOf, AnswersDelete}
 use Rattle.inode_ops.specs.Table.{IsBefore, IsOf, IsAnswer, AreIds, IsNumberedBy, IsCallsTable}
 use Rattle.inode_ops.proofs.QuotaLemmas.{LocksQuota, locks_each}
-use Rattle.inode_ops.proofs.RaiseLemmas.{written-append, next_after-append}
 use Rattle.inode_ops.proofs.PlaceLemmas.{IsSet, last_is}
 use Rattle.inode_ops.proofs.RemovedLemmas.{rows_removed, flags_removed, ids_removed}
 use Rattle.inode_ops.proofs.DeletePlaceLemmas.{own_there, own_row, knows_children, own_left, are_left, along_left}
@@ -165,9 +165,9 @@ module _ (tables : Tables) (bound : ℕ) (space : Namespace) (client : ClientNo)
       let entry : entry_at space place.path ≡ Some (entry_of tables.quotas old) = set.stands.entries place.path ∙ ap (option_map (entry_of tables.quotas)) here in
       let answer : plain space client user (call.Delete place.path false) ≡ granted (without space place.path) = delete_leaf space place.path root (ap is_some entry) few in
       let lows : List (Key × Option Row) = quota_writes (lowered 1 (bytes_of (entry_of tables.quotas old))) rows in
-      let tables_are : written tables (removals set.walk.down.bottom ++ lows) ≡ written (written tables (removals set.walk.down.bottom)) lows = written-append tables (removals set.walk.down.bottom) lows in
+      let tables_are : written tables (removals set.walk.down.bottom ++ lows) ≡ written (written tables (removals set.walk.down.bottom)) lows = written-append (removals set.walk.down.bottom) lows tables in
       let next_is : next_after view.next.0 (removals set.walk.down.bottom ++ lows) ≡ view.next.0 =
-      next_after-append view.next.0 (removals set.walk.down.bottom) lows ∙ ap (λ (n : ℕ). next_after n lows) (next_removals view.next.0 set.walk.down.bottom) ∙ next_written (lowered 1 (bytes_of (entry_of tables.quotas old))) rows view.next.0 in
+      next_after-append (removals set.walk.down.bottom) lows view.next.0 ∙ ap (λ (n : ℕ). next_after n lows) (next_removals view.next.0 set.walk.down.bottom) ∙ next_written (lowered 1 (bytes_of (entry_of tables.quotas old))) rows view.next.0 in
       let then = rows_removed tables view.next.0 set.tree space set.names set.stands set.counts set.walk.down.bottom.0 old there place.path (not_root place.path root) here leaf (written tables (removals set.walk.down.bottom)) left rows known along in
       let flags = flags_removed tables view.next.0 set.tree space set.names set.stands set.counts set.walk.down.bottom.0 old there place.path (not_root place.path root) here leaf (written tables (removals set.walk.down.bottom)) left rows known along in
       let ids = ids_removed tables view.next.0 set.tree space set.names set.stands set.counts set.walk.down.bottom.0 old there place.path (not_root place.path root) here leaf (written tables (removals set.walk.down.bottom)) left rows known along in

@@ -39,14 +39,14 @@ use Rattle.db_state.specs.declared.writes.Row.{Row}
 use Rattle.db_state.specs.NewDirs.{FirstMissing}
 use Rattle.db_state.specs.NewFile.{new_file_rows}
 use Rattle.db_state.specs.NumberLaws.{next_with_new}
-use Rattle.db_state.specs.FileLaws.{quotas_filed, next_filed, unflagged_filed, tree_filed, given_filed, stands_filed}
+use Rattle.db_state.specs.FileLaws.{written-append, next_after-append, quotas_filed, next_filed, unflagged_filed, tree_filed, given_filed, stands_filed}
 use Rattle.db_state.specs.GrowthLaws.{names_more, counts_filed}
 use Rattle.db_state.specs.CountLaws.{stands_recounted}
 use Rattle.db_state.specs.Recounted.{IsRecounted}
 use Rattle.inode_ops.specs.Table.{IsOf, IsNumberedBy, AreIds, IsAnswer}
 use Rattle.inode_ops.specs.Steps.{AreRaised}
 use Rattle.inode_ops.proofs.QuotaLemmas.{LocksQuota, seen_of}
-use Rattle.inode_ops.proofs.RaiseLemmas.{written-append, next_after-append, next_raised, inodes_raised, IsRaisedIn, raised_in}
+use Rattle.inode_ops.proofs.RaiseLemmas.{next_raised, inodes_raised, IsRaisedIn, raised_in}
 use Rattle.inode_ops.proofs.PlaceLemmas.{IsSet, path_is as path_of_place, missing_is, missing_row}
 use Rattle.inode_ops.proofs.AlongLemmas.{recounted_raised}
 use Rattle.inode_ops.proofs.TableLemmas.{long_below, unremoved, all_new}
@@ -101,7 +101,7 @@ module _ (tables : Tables) (space : Namespace) (locked : List (Key × Mode)) (se
 
   next_is : next_after view.next.0 (rows ++ more) ≡ last_id
   next_is =
-      next_after-append view.next.0 rows more
+      next_after-append rows more view.next.0
       ∙ next_raised (set.walk.first ∷ set.walk.rows) seen (length set.walk.down.rest) (next_after view.next.0 rows) more raises.each
       ∙ next_filed ups set.walk.down.at.there.row.id.0 view.next.0 user name client
 
@@ -184,7 +184,7 @@ module _ (tables : Tables) (space : Namespace) (locked : List (Key × Mode)) (se
   pub filed_answer : (asked : Call) (reply : Reply) (writes : List (Key × Option Row)) → ((old new : Namespace) → move_of old new asked ≡ None) → length ups + 1 ≤ sum_by (λ (p : Path). length p) (paths_of asked)
       → plain space client user asked ≡ granted later → as_read reply ≡ (granted later).reply → writes ≡ rows ++ more → IsAnswer tables space client user asked view reply writes
   filed_answer asked reply writes still few answer reads is =
-      let tables_are : written tables (rows ++ more) ≡ after = written-append tables rows more in
+      let tables_are : written tables (rows ++ more) ≡ after = written-append rows more tables in
       subst (IsAnswer tables space client user asked view reply) (sym is) (record {
         told = reads ∙ sym (ap (λ (a : Answered). a.reply) answer);
         rows = subst (IsOf (written tables (rows ++ more)) (next_after view.next.0 (rows ++ more))) (sym (ap (λ (a : Answered). a.space) answer))

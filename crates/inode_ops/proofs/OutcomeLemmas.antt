@@ -1,5 +1,5 @@
 -- Outcomes against the calls table: `stat`, and `mkdirs` by what stands on its path.
-use Rattle.std.proofs.Common.{◌≡◌, ℕ, ◌+◌, Bool, true, false, ◌||◌, List, [], ◌∷◌, ◌++◌, map as list_map, length, reverse, slice_get, Option, Some, None, IfSome, option_map, Result, Ok, Err, IfOk, arith, refl, sym, ap, subst, ◌∙◌, inl, inr, append-nil}
+use Rattle.std.proofs.Common.{◌≡◌, ℕ, ◌+◌, Bool, true, false, ◌||◌, List, [], ◌∷◌, ◌++◌, map as list_map, length, reverse, slice_get, Option, Some, None, IfSome, Result, Ok, Err, IfOk, arith, refl, sym, ap, subst, ◌∙◌, inl, inr, append-nil}
 use Rattle.std.proofs.lemmas.Bool.{or_left, or_right}
 use Rattle.std.proofs.lemmas.List.Folds.{list_any-append}
 use Rattle.std.specs.List.{AllByRecursion, list_any}
@@ -24,7 +24,7 @@ use Rattle.name_space.specs.Namespace.{Namespace, Path, entry_at, is_file, above
 use Rattle.name_space.specs.NamespaceLaws.{missing_within}
 use Rattle.name_space.specs.PathLaws.{is_within-append}
 use Rattle.name_space.specs.MkdirsLaws.{mkdirs-file, mkdirs-under_file, mkdirs-below}
-use Rattle.name_space.specs.Plain.{Answered, told, refused, granted, unless, with_dirs, mkdirs, stat_at}
+use Rattle.name_space.specs.Plain.{told, refused, granted, unless, with_dirs, mkdirs, stat_at}
 use Rattle.name_space.specs.Plain as plain_words
 use Rattle.name_space.specs.Quota.{over_quota}
 use Rattle.inode_table.specs.declared.inode.Inode.{Inode}
@@ -33,8 +33,8 @@ use Rattle.inode_table.specs.declared.inode.Kind.TheVariants.{Dir, File}
 use Rattle.quota_table.specs.declared.quota.QuotaRow.{QuotaRow}
 use Rattle.db_state.specs.State.{Tables}
 use Rattle.db_state.specs.Stands.{entry_of, entry_of_kind, quota_of}
-use Rattle.db_state.specs.Current.{IsCurrent, IsCurrentPlace, SpellsPlace, IsThere, is_locked}
-use Rattle.db_state.specs.Plan.{deepest, is_whole, plan, in_mode, low, next, quotas, last_found}
+use Rattle.db_state.specs.Current.{IsCurrentPlace, SpellsPlace, is_locked}
+use Rattle.db_state.specs.Plan.{is_whole, plan, in_mode, low, next, quotas, last_found}
 use Rattle.db_state.specs.declared.outcome.Outcome.{Outcome}
 use Rattle.db_state.specs.declared.outcome.Outcome.TheVariants.{Answer, Subtree}
 use Rattle.db_state.specs.declared.view.Place.{Place}

@@ -1,5 +1,5 @@
 -- What the place of a path tells of the rows and the namespace.
-use Rattle.std.proofs.Common.{◌≡◌, ℕ, ◌+◌, ◌-◌, ◌<◌, ◌≤◌, Bool, true, false, nat_lt, List, [], ◌∷◌, ◌++◌, map as list_map, zip, length, drop, reverse, slice_get, Option, Some, None, IfSome, option_map, arith, refl, sym, ap, subst, ◌∙◌, append-nil, length-append, length-drop}
+use Rattle.std.proofs.Common.{◌≡◌, ℕ, ◌+◌, ◌-◌, ◌<◌, ◌≤◌, true, false, nat_lt, List, [], ◌∷◌, ◌++◌, map as list_map, zip, length, drop, reverse, slice_get, Option, Some, None, IfSome, option_map, arith, refl, sym, ap, subst, ◌∙◌}
 use Rattle.std.proofs.lemmas.Bool.Decides.{nat_tests}
 use Rattle.std.proofs.lemmas.List.{reverse-reverse}
 use Rattle.std.specs.List.{AllByRecursion}

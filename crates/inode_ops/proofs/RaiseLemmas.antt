@@ -1,5 +1,5 @@
 -- Raised quota rows as they are written, and what the rows are then.
-use Rattle.std.proofs.Common.{◌≡◌, ℕ, Bool, true, false, cond, ◌||◌, List, [], ◌∷◌, ◌++◌, Option, Some, None, IsSome, is_some, option_map, option_and_then, refl, sym, ap, subst, ◌∙◌, inl, inr}
+use Rattle.std.proofs.Common.{◌≡◌, ℕ, Bool, true, false, cond, ◌||◌, List, [], ◌∷◌, Option, Some, None, IsSome, is_some, option_map, option_and_then, refl, sym, ap, subst, ◌∙◌, inl, inr}
 use Rattle.std.proofs.lemmas.Bool.{true≢false, or_cases}
 use Rattle.std.specs.FinMap as map
 use Rattle.std.specs.List.{AllByRecursion, list_any}
@@ -23,16 +23,6 @@ use Rattle.db_state.specs.Spelled.{Inodes, row_of}
 use Rattle.db_state.specs.Stands.{Quotas, quota_of, entry_of, entry_of_kind, IsQuotaOf, Stands}
 use Rattle.db_state.specs.PathLaws.{same_id}
 use Rattle.inode_ops.specs.Steps.{quota_in, raised, has_id, IsRaisedRow, AreRaised}
-
--- ---- writes one after another
-
-pub written-append : (tables : Tables) (first more : List (Key × Option Row)) → written tables (first ++ more) ≡ written (written tables first) more
-written-append tables [] more = refl
-written-append tables (w ∷ first) more = written-append (with_row tables w.0 w.1) first more
-
-pub next_after-append : (next : ℕ) (first more : List (Key × Option Row)) → next_after next (first ++ more) ≡ next_after (next_after next first) more
-next_after-append next [] more = refl
-next_after-append next (w ∷ first) more = next_after-append (next_with next w.1) first more
 
 -- ---- what raised rows leave
 

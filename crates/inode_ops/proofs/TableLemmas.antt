@@ -17,7 +17,7 @@ use Rattle.name_space.specs.declared.call.Call.{Call}
 use Rattle.name_space.specs.declared.entry.Entry.{Entry}
 use Rattle.name_space.specs.declared.reply.Reply.{Reply}
 use Rattle.name_space.specs.Namespace as spaces
-use Rattle.name_space.specs.Namespace.{Namespace, Path, IsNamespace, entry_at, exists, is_within, paths_below, prefixes, missing}
+use Rattle.name_space.specs.Namespace.{Namespace, Path, IsNamespace, entry_at, exists, is_within, paths_below, missing}
 use Rattle.name_space.specs.NamespaceLaws.{dir-exists, entry_at-with_dirs, Rises-with_dirs}
 use Rattle.name_space.specs.PrefixLaws.{among-missing}
 use Rattle.name_space.specs.Cut.{is_among}
@@ -43,12 +43,14 @@ use Rattle.db_state.specs.declared.writes.Row.{Row}
 use Rattle.db_state.specs.NewDirs.{new_dirs, Unremoved}
 use Rattle.db_state.specs.ChainLaws.{quotas_chained, tree_chained, stands_chained}
 use Rattle.db_state.specs.NumberLaws.{given_chained, next_with_new}
+use Rattle.db_state.specs.FileLaws.{written-append, next_after-append}
+use Rattle.db_state.specs.GrowthLaws.{still_chained}
 use Rattle.inode_ops.specs.Table.{IsOf, IsNumberedBy, AreIds, IsAnswer}
 use Rattle.inode_ops.specs.Steps.{AreRaised}
 use Rattle.inode_ops.proofs.QuotaLemmas.{LocksQuota, seen_of}
-use Rattle.inode_ops.proofs.RaiseLemmas.{written-append, next_after-append, next_raised, inodes_raised, IsRaisedIn, raised_in, stands_raised}
+use Rattle.inode_ops.proofs.RaiseLemmas.{next_raised, inodes_raised, IsRaisedIn, raised_in, stands_raised}
 use Rattle.inode_ops.proofs.PlaceLemmas.{IsSet, missing_is, missing_row}
-use Rattle.inode_ops.proofs.CountLemmas.{still_chained, counts_made}
+use Rattle.inode_ops.proofs.CountLemmas.{counts_made}
 
 -- rows spell a tree with every next id that is above theirs
 pub tree_at : (inodes : Inodes) (bound next : ℕ) → IsTree inodes bound → IsFree inodes next → IsTree inodes next
@@ -180,7 +182,7 @@ module _ (tables : Tables) (space : Namespace) (locked : List (Key × Mode)) (se
 
   next_made : next_after view.next.0 (new_dirs set.walk.down.at.there.row.id.0 view.next.0 user set.walk.down.rest ++ more) ≡ view.next.0 + length set.walk.down.rest
   next_made =
-      next_after-append view.next.0 (new_dirs set.walk.down.at.there.row.id.0 view.next.0 user set.walk.down.rest) more
+      next_after-append (new_dirs set.walk.down.at.there.row.id.0 view.next.0 user set.walk.down.rest) more view.next.0
       ∙ next_raised (set.walk.first ∷ set.walk.rows) seen (length set.walk.down.rest) (next_after view.next.0 (new_dirs set.walk.down.at.there.row.id.0 view.next.0 user set.walk.down.rest)) more raises.each
       ∙ next_dirs set.walk.down.at.there.row.id.0 view.next.0 user set.walk.down.rest
 
@@ -228,7 +230,7 @@ module _ (tables : Tables) (space : Namespace) (locked : List (Key × Mode)) (se
       → plain space client user asked ≡ granted (with_dirs space user (missing space place.path)) → as_read reply ≡ (granted (with_dirs space user (missing space place.path))).reply
       → writes ≡ new_dirs set.walk.down.at.there.row.id.0 view.next.0 user set.walk.down.rest ++ more → IsAnswer tables space client user asked view reply writes
   made client asked reply writes still few answer reads is =
-      let tables_are : written tables (new_dirs set.walk.down.at.there.row.id.0 view.next.0 user set.walk.down.rest ++ more) ≡ written (written tables (new_dirs set.walk.down.at.there.row.id.0 view.next.0 user set.walk.down.rest)) more = written-append tables (new_dirs set.walk.down.at.there.row.id.0 view.next.0 user set.walk.down.rest) more in
+      let tables_are : written tables (new_dirs set.walk.down.at.there.row.id.0 view.next.0 user set.walk.down.rest ++ more) ≡ written (written tables (new_dirs set.walk.down.at.there.row.id.0 view.next.0 user set.walk.down.rest)) more = written-append (new_dirs set.walk.down.at.there.row.id.0 view.next.0 user set.walk.down.rest) more tables in
       subst (IsAnswer tables space client user asked view reply) (sym is) (record {
         told = reads ∙ sym (ap (λ (a : Answered). a.reply) answer);
         rows = subst (IsOf (written tables (new_dirs set.walk.down.at.there.row.id.0 view.next.0 user set.walk.down.rest ++ more)) (next_after view.next.0 (new_dirs set.walk.down.at.there.row.id.0 view.next.0 user set.walk.down.rest ++ more))) (sym (ap (λ (a : Answered). a.space) answer))

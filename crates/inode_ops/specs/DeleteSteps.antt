@@ -1,11 +1,8 @@
 -- What `delete` does, by the rows that its view has.
-use Rattle.std.specs.Prelude.{◌≡◌, ℕ, ◌-◌, Bool, true, false, not, ◌||◌, List, [], ◌∷◌, ◌++◌, length, take, Option, Some, None, IfSome}
-use Rattle.std.specs.List.{list_any, AllByRecursion}
-use Rattle.std.specs.Map.{keys_of}
+use Rattle.std.specs.Prelude.{◌≡◌, ◌-◌, Bool, true, false, not, ◌||◌, List, [], ◌∷◌, length, take, Option, None, IfSome}
 use Rattle.hops_base.specs.declared.ids.InodeId.{InodeId}
 use Rattle.hops_base.specs.declared.key.Key.{Key}
 use Rattle.hops_base.specs.declared.key.Key.TheVariants as key
-use Rattle.hops_base.specs.Key.{same_key}
 use Rattle.inode_table.specs.declared.inode.Inode.{Inode}
 use Rattle.inode_table.specs.Inode.{counted_bytes}
 use Rattle.quota_table.specs.declared.quota.QuotaRow.{QuotaRow}
@@ -17,8 +14,6 @@ use Rattle.db_state.specs.declared.outcome.Outcome.{Outcome}
 use Rattle.db_state.specs.declared.outcome.Outcome.TheVariants.{Answer, Subtree}
 use Rattle.db_state.specs.declared.writes.Row.{Row}
 use Rattle.db_state.specs.Plan.{where_so, last_found, is_whole}
-use Rattle.db_state.specs.QuotaWrites.{quota_writes, lowered}
-use Rattle.db_state.specs.QuotaWriteLaws as quota_laws
 use Rattle.inode_ops.specs.LowerSteps.{GoesOnLowered}
 use Rattle.inode_ops.specs.Steps.{IsTold, IsRefused}
 

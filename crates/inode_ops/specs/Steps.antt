@@ -14,7 +14,6 @@ use Rattle.quota_table.specs.declared.quota.QuotaRow.{QuotaRow}
 use Rattle.quota_table.specs.declared.quota.Fit.{Fit}
 use Rattle.quota_table.specs.declared.quota.Fit.TheVariants.{Fits, Names, Bytes}
 use Rattle.name_space.specs.declared.entry.FileStatus.{FileStatus}
-use Rattle.name_space.specs.declared.entry.FileStatus.TheVariants as status
 use Rattle.name_space.specs.declared.reply.Reply.{Reply}
 use Rattle.name_space.specs.declared.reply.Reply.TheVariants.{Truth, Status, Refused}
 use Rattle.name_space.specs.declared.reply.Exception.{Exception}

@@ -9,6 +9,7 @@ use crate::create::create;
 use crate::delete::delete;
 use crate::directories::mkdirs;
 use crate::list::list;
+use crate::place::only_place;
 use crate::status::stat;
 use db_state::{Outcome, View};
 use hops_base::{ClientNo, NoMemory, User};
@@ -28,9 +29,7 @@ pub fn outcome(
     requires { IsViewOf view.now call.now }
     ensures { IfOk result (IsCallsTable view.now client user.now call.now) }
 {
-    let Some(place) = view.places.get(0) else {
-        unreachable!()
-    };
+    let place = only_place(view);
     match call {
         Call::Create(path, overwrite) => create(alloc, view, client, user, path, *overwrite),
         Call::List(path) => list(alloc, view, path),

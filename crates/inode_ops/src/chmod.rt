@@ -8,8 +8,8 @@ ghost use Rattle.inode_ops.specs.ChmodSteps.{with_mode, IsModeSet};
 ghost use Rattle.inode_ops.specs.Outcomes.{IsViewOf};
 ghost use Rattle.inode_ops.specs.Table.{IsCallsTable};
 
-use crate::directories::refused;
-use crate::place::is_whole;
+use crate::place::{is_whole, only_place};
+use crate::told::refused;
 use db_state::{Outcome, Place, Row, View, Writes};
 use hops_base::{NoMemory, Path};
 use inode_table::Inode;
@@ -21,9 +21,7 @@ pub fn chmod(alloc: Global, view: &View, path: &Path, mode: u16) -> Result<Outco
     requires { IsViewOf view.now (call.Chmod path.now mode) }
     ensures { IfOk result (λ outcome. (client : ClientNo) (user : List ℕ) → IsCallsTable view.now client user (call.Chmod path.now mode) outcome) }
 {
-    let Some(place) = view.places.get(0) else {
-        unreachable!()
-    };
+    let place = only_place(view);
     if path.len() == 0 {
         return refused(alloc, Exception::IO(Why::RootFixed));
     }

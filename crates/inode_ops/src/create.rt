@@ -8,9 +8,10 @@ ghost use Rattle.inode_ops.specs.CreateSteps.{overwritten, AnswersCreate, MakesF
 ghost use Rattle.inode_ops.specs.Outcomes.{IsViewOf, CanMake, CanRaise};
 ghost use Rattle.inode_ops.specs.Table.{IsCallsTable};
 
-use crate::directories::{new_dirs, refused};
-use crate::place::{deepest, is_whole, last_found};
+use crate::directories::new_dirs;
+use crate::place::{deepest, is_whole, last_found, only_place};
 use crate::quotas::{first_full, lower, raise};
+use crate::told::refused;
 use db_state::{Outcome, Place, Row, View, Writes};
 use hops_base::{ClientNo, InodeId, Key, Name, NoMemory, Path, User};
 use inode_table::{Inode, Kind};
@@ -33,9 +34,7 @@ pub fn create(
     requires { IsViewOf view.now (call.Create path.now overwrite) }
     ensures { IfOk result (IsCallsTable view.now client user.now (call.Create path.now overwrite)) }
 {
-    let Some(place) = view.places.get(0) else {
-        unreachable!()
-    };
+    let place = only_place(view);
     create_at(alloc, view, place, client, user, overwrite)
 }
 

@@ -1,6 +1,6 @@
 //! `delete` of a file or of an empty directory.
 
-ghost use Rattle.std.specs.Prelude.{◌≡◌, false, ℕ, List, IfOk};
+ghost use Rattle.std.specs.Prelude.{false, ℕ, List, IfOk};
 ghost use Rattle.hops_base.specs.declared.ids.ClientNo.{ClientNo};
 ghost use Rattle.name_space.specs.declared.call.Call.TheVariants as call;
 ghost use Rattle.db_state.specs.Current.{SpellsPlace};
@@ -9,11 +9,11 @@ ghost use Rattle.inode_ops.specs.DeleteSteps.{RemovesLast, AnswersDelete};
 ghost use Rattle.inode_ops.specs.Outcomes.{IsViewOf};
 ghost use Rattle.inode_ops.specs.Table.{IsCallsTable};
 
-use crate::place::is_whole;
+use crate::place::{is_whole, only_place};
 use crate::quotas::lower;
+use crate::told::{refused, told};
 use db_state::{Outcome, Place, View, Writes};
 use hops_base::{InodeId, Key, NoMemory, Path};
-use inode_table::{Inode, Kind};
 use name_space::{Exception, Reply};
 use quota_table::QuotaRow;
 use std::alloc::Global;
@@ -25,9 +25,7 @@ pub fn delete(alloc: Global, view: &View, path: &Path) -> Result<Outcome, NoMemo
     requires { IsViewOf view.now (call.Delete path.now false) }
     ensures { IfOk result (λ outcome. (client : ClientNo) (user : List ℕ) → IsCallsTable view.now client user (call.Delete path.now false) outcome) }
 {
-    let Some(place) = view.places.get(0) else {
-        unreachable!()
-    };
+    let place = only_place(view);
     delete_at(alloc, place, view.quotas.as_slice())
 }
 
@@ -41,11 +39,10 @@ fn delete_at(
     ensures { IfOk result (AnswersDelete place.now quotas.now) }
 {
     if place.path.len() == 0 || !is_whole(place) {
-        return Ok(Outcome::Answer(Reply::Truth(false), Writes::new(alloc)));
+        return told(alloc, Reply::Truth(false));
     }
     if place.has_child {
-        let refusal = Reply::Refused(Exception::PathIsNotEmptyDirectory);
-        return Ok(Outcome::Answer(refusal, Writes::new(alloc)));
+        return refused(alloc, Exception::PathIsNotEmptyDirectory);
     }
     let writes = removal(alloc, place, quotas)?;
     Ok(Outcome::Answer(Reply::Truth(true), writes))

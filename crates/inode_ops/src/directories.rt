@@ -4,10 +4,11 @@ ghost use Rattle.std.specs.Prelude.{◌≡◌, ◌+◌, ◌^◌, ◌<◌, ◌≤
 ghost use Rattle.db_state.specs.State.{new_dir};
 ghost use Rattle.db_state.specs.NewDirs.{new_dirs};
 ghost use Rattle.inode_ops.specs.Outcomes.{CanMake, CanRaise};
-ghost use Rattle.inode_ops.specs.Steps.{AnswersMkdirs, MakesMissing, IsTold, IsRefused};
+ghost use Rattle.inode_ops.specs.Steps.{AnswersMkdirs, MakesMissing};
 
 use crate::place::{deepest, is_whole};
 use crate::quotas::{first_full, raise};
+use crate::told::{refused, told};
 use db_state::{Outcome, Place, Row, Writes};
 use hops_base::{InodeId, Key, Name, NoMemory, User};
 use inode_table::{Inode, Kind};
@@ -60,20 +61,6 @@ fn make_missing(
     let mut writes = new_dirs(alloc, last.id, next, user, missing)?;
     raise(&mut writes, place.found.as_slice(), quotas, count)?;
     Ok(Outcome::Answer(Reply::Truth(true), writes))
-}
-
-/// This is refused, and nothing written.
-pub fn refused(alloc: Global, exception: Exception) -> Result<Outcome, NoMemory>
-    ensures { IfOk result (IsRefused exception) }
-{
-    told(alloc, Reply::Refused(exception))
-}
-
-/// This is told, and nothing is written.
-pub fn told(alloc: Global, reply: Reply) -> Result<Outcome, NoMemory>
-    ensures { IfOk result (IsTold reply) }
-{
-    Ok(Outcome::Answer(reply, Writes::new(alloc)))
 }
 
 /// One new directory for each name, each below the one before.

@@ -17,11 +17,6 @@ mod quotas;
 mod status;
 #[cfg(test)]
 mod tests;
-#[cfg(test)]
-mod tests_chmod_list;
-#[cfg(test)]
-mod tests_create;
-#[cfg(test)]
-mod tests_delete;
+mod told;
 
 pub use calls::outcome;

@@ -7,8 +7,8 @@ ghost use Rattle.db_state.specs.Current.{listed_row};
 ghost use Rattle.inode_ops.specs.Outcomes.{IsViewOf};
 ghost use Rattle.inode_ops.specs.Table.{IsCallsTable};
 
-use crate::directories::{refused, told};
-use crate::place::{deepest, is_whole};
+use crate::place::{deepest, is_whole, only_place};
+use crate::told::{refused, told};
 use db_state::{Outcome, View, status_of};
 use hops_base::{Name, NoMemory, Path};
 use inode_table::{Inode, Kind};
@@ -21,9 +21,7 @@ pub fn list(alloc: Global, view: &View, path: &Path) -> Result<Outcome, NoMemory
     requires { IsViewOf view.now (call.List path.now) }
     ensures { IfOk result (λ outcome. (client : ClientNo) (user : List ℕ) → IsCallsTable view.now client user (call.List path.now) outcome) }
 {
-    let Some(place) = view.places.get(0) else {
-        unreachable!()
-    };
+    let place = only_place(view);
     if !is_whole(place) {
         return refused(alloc, Exception::FileNotFound);
     }

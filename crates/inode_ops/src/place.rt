@@ -1,11 +1,22 @@
 //! What a place tells of its path.
 
-ghost use Rattle.std.specs.Prelude.{◌≡◌, ◌≤◌, length, option_copied};
+ghost use Rattle.std.specs.Prelude.{◌≡◌, ◌≤◌, length, Some, slice_get};
 ghost use Rattle.db_state.specs.Plan.{deepest, is_whole, last_found};
 
-use db_state::Place;
+use db_state::{Place, View};
 use hops_base::Key;
 use inode_table::Inode;
+
+/// The place of the one path of a call.
+pub fn only_place(view: &View) -> &Place
+    requires { 1 ≤ length view.now.places.items }
+    ensures { slice_get view.now.places.items 0 ≡ Some result.now }
+{
+    match view.places.get(0) {
+        Some(place) => place,
+        None => unreachable!(),
+    }
+}
 
 /// Whether the path was found whole.
 pub fn is_whole(place: &Place) -> bool

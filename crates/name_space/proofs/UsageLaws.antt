@@ -11,7 +11,7 @@ use Rattle.name_space.specs.Namespace.{Namespace, Path, IsNamespace, entry_at, i
 use Rattle.name_space.specs.PathLaws.{paths_tell, same_path-self, same_path-is, same_path-not, is_within-self, is_within-append, is_within-rest, is_within-trans, is_within-long}
 use Rattle.name_space.specs.NamespaceLaws.{Rises, dir_above, dir-exists}
 use Rattle.name_space.specs.MoveLaws.{not_later}
-use Rattle.name_space.specs.UsageLaws.{total, total-is, total-ones, total-zero, total-add, total-ap, total-filter, total_same}
+use Rattle.name_space.specs.SumLaws.{total, total-is, total-ones, total-zero, total-add, total-ap, total-filter, total_same}
 use Rattle.name_space.specs.Laws.{UsageIsASum}
 
 -- the two orders of a double sum

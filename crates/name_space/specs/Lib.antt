@@ -15,4 +15,5 @@ pub mod Rename
 pub mod RisingLaws
 pub mod Rows
 pub mod Script
+pub mod SumLaws
 pub mod UsageLaws

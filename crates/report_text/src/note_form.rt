@@ -12,7 +12,7 @@ ghost use Rattle.report_text.specs.Notes.{note_data, work_data, cause_data, kind
 use crate::key_form::{key_value, mode_letter};
 use crate::reply_form::reply_value;
 use commit_log::{Cause, Ended, Note, Work};
-use hops_base::{ClientNo, NoMemory, OpId, Path, SessionId};
+use hops_base::{ClientNo, NoMemory, Path, SessionId};
 use name_space::{Call, OpKind, Reply};
 use script_text::{Row, call_value};
 use serde_json::Value;

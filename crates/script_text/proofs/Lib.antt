@@ -1,8 +1,7 @@
 mod Canonical
+mod FormsExact
 mod Exact
-pub mod Literals
 mod OneScript
-pub mod NoFloat
 mod ViewLemmas
 mod Reading
 mod Values

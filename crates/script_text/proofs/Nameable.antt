@@ -7,7 +7,7 @@ use Rattle.std.proofs.lemmas.Bool.Decides.{nat_tests}
 use Rattle.std.proofs.lemmas.List.Splits.{slice_split_none, slice_split_at}
 use Rattle.hops_base.specs.Name.{is_name, is_name_byte, same_name}
 use Rattle.hops_base.specs.Path.{is_short, is_absolute, joined, text_of, names_in, name_fault, names_fault}
-use Rattle.hops_base.proofs.PathLemmas.{fault_of_short}
+use Rattle.hops_base.specs.PathLaws.{fault_of_short}
 use Rattle.script_text.specs.Grammar.{IsNameable}
 
 -- ---- what a name is not

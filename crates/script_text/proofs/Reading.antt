@@ -25,7 +25,8 @@ use Rattle.script_text.specs.CallForms.{has_shape, has_form, refused_path, has_r
 use Rattle.script_text.specs.Faults.{fault, unless, members_fault, has_known_keys, has_version, has_namenodes, may_count, may_persist, namenodes_in, stops_fault, bad_stop, call_fault, client_fault, stop_of, stops_node, is_next_stop}
 use Rattle.script_text.specs.Grammar.{SaysCall, Says}
 use Rattle.script_text.specs.Reading.{IsReadOf, stop_after, early_fault, HasClients, call_made, calls_fault, clients_fault}
-use Rattle.script_text.proofs.Exact.{unless-none, stop_is, members_exact, some_call_said, is_array, items_of-values_of}
+use Rattle.script_text.proofs.FormsExact.{unless-none}
+use Rattle.script_text.proofs.Exact.{stop_is, members_exact, some_call_said, is_array, items_of-values_of}
 
 -- the answer is this error
 pub error_is : {T : Type 0} (r : Result T ScriptError) (told : ScriptError) → IsErr r × IsErrAnd r (λ e. e ≡ told) → r ≡ Err told

@@ -8,3 +8,5 @@ pub mod Built
 pub mod Script
 pub mod Reading
 pub mod Generator
+pub mod Literals
+pub mod NoFloat

@@ -1,6 +1,6 @@
 //! The forms of calls: what stands behind the name of each.
 
-ghost use Rattle.std.specs.Prelude.{◌≡◌, ◌&&◌, ◌∷◌, [], nat_le, map, drop, filter_map, slice_get, is_some, Ok, IfOk, option_map, option_and_then, false, true};
+ghost use Rattle.std.specs.Prelude.{◌≡◌, ◌&&◌, ◌∷◌, [], nat_le, map, filter_map, Ok, IfOk, option_map, false, true};
 ghost use Rattle.std.specs.List.{list_all};
 ghost use Rattle.std.specs.Option.{option_map_or};
 ghost use Rattle.std.specs.Cmp.Lexicographic.{pointwise};

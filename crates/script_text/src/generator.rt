@@ -2,7 +2,7 @@
 
 ghost use Rattle.std.specs.Prelude.{◌≡◌, ◌≤◌, ◌<◌, map, IfOk};
 ghost use Rattle.std.specs.List.{range_with_len};
-ghost use Rattle.script_text.specs.Generator.{draw, any_below, any_to, any_truth, any_name, any_path, any_call, times, first_state, user_of, client_generated, generated};
+ghost use Rattle.script_text.specs.Generator.{draw, any_below, any_truth, any_name, any_path, any_call, times, first_state, user_of, client_generated, generated};
 
 use crate::script::{CallList, ClientCalls, ClientList, DEFAULT_GRACE, DEFAULT_TRIES, Script};
 use hops_base::{Name, NoMemory, Path, StopList, User};

@@ -1,6 +1,6 @@
 //! What stands at the keys of an object of JSON.
 
-ghost use Rattle.std.specs.Prelude.{◌≡◌, ◌==◌, map, length, option_map, option_and_then, bytes_eq, string_bytes};
+ghost use Rattle.std.specs.Prelude.{◌≡◌, ◌==◌, map, length, option_map, option_and_then, bytes_eq};
 ghost use Rattle.std.specs.List.{list_all, list_any};
 ghost use Rattle.serde_json.specs.Find.{get_member, as_array, as_str};
 ghost use Rattle.serde_json.specs.View.{view, members_view};

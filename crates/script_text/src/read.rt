@@ -1,16 +1,14 @@
 //! Scripts, read from bytes.
 
-ghost use Rattle.std.specs.Prelude.{◌≡◌, ◌≤◌, ◌<◌, ◌∷◌, [], map, length, option_map, option_and_then, unwrap_or, true, IfOk};
+ghost use Rattle.std.specs.Prelude.{◌≡◌, ◌≤◌, ◌<◌, [], map, length, option_map, option_and_then, unwrap_or, true, IfOk};
 ghost use Rattle.std.specs.List.{AllZip, enumerate_from};
 ghost use Rattle.hops_base.specs.First.{first_some};
-ghost use Rattle.hops_base.specs.User.{is_user};
-ghost use Rattle.name_space.specs.Script.{ClientCalls as SeenClient};
 ghost use Rattle.serde_json.specs.Data.{boolean};
 ghost use Rattle.serde_json.specs.Find.{get_member};
 ghost use Rattle.serde_json.specs.View.{view, members_view};
 ghost use Rattle.script_text.specs.Json.{row, at_key, as_whole, is_within};
 ghost use Rattle.script_text.specs.Form.{stop_data};
-ghost use Rattle.script_text.specs.Faults.{fault, unless, value_of, data_fault, members_fault, has_known_keys, has_version, has_namenodes, may_count, may_persist, namenodes_in, stops_fault, client_fault, client_members_fault, call_fault, has_both_keys, has_in, may_have_in, is_count_data};
+ghost use Rattle.script_text.specs.Faults.{fault, value_of, data_fault, members_fault, has_known_keys, may_count, may_persist, stops_fault, client_fault, client_members_fault, call_fault, has_both_keys, has_in, may_have_in, is_count_data};
 ghost use Rattle.script_text.specs.Grammar.{SaysCall, HasClient, SaysClient, Says, IsRead};
 ghost use Rattle.script_text.specs.Reading.{IsReadOf, SaysScript, early_fault, clients_fault, HasClients, calls_fault, HasCalls, user_in};
 

@@ -1,10 +1,9 @@
 //! Calls, read from what scripts have of them.
 
 ghost use Rattle.std.specs.Prelude.{◌≡◌, ◌≤◌, map, codes, IfOk};
-ghost use Rattle.hops_base.specs.Path.{names_in};
 ghost use Rattle.serde_json.specs.View.{view};
 ghost use Rattle.script_text.specs.Json.{as_whole};
-ghost use Rattle.script_text.specs.Faults.{fault, call_fault};
+ghost use Rattle.script_text.specs.Faults.{call_fault};
 ghost use Rattle.script_text.specs.Grammar.{SaysCall};
 ghost use Rattle.script_text.specs.Reading.{IsReadOf, value_at, text_at, path_at, truth_at, number_at, call_made};
 

@@ -1,12 +1,11 @@
 //! Stops, read from what scripts have of them.
 
-ghost use Rattle.std.specs.Prelude.{◌≡◌, ◌≤◌, ◌==◌, ◌&&◌, not, map, length, option_map, true};
+ghost use Rattle.std.specs.Prelude.{◌≡◌, ◌==◌, map, option_map, true};
 ghost use Rattle.std.specs.List.{list_any};
-ghost use Rattle.name_space.specs.Script.{is_stop};
 ghost use Rattle.serde_json.specs.View.{view};
 ghost use Rattle.script_text.specs.Json.{row};
 ghost use Rattle.script_text.specs.Form.{stop_data};
-ghost use Rattle.script_text.specs.Faults.{fault, stops_fault, bad_stop, stop_of};
+ghost use Rattle.script_text.specs.Faults.{fault, stops_fault, bad_stop};
 ghost use Rattle.script_text.specs.Reading.{IsReadOf, stop_within, stop_after};
 
 use crate::call_forms::values_in;

@@ -1,4 +1,4 @@
-use Rattle.std.proofs.Common.{◌≡◌, ◌≤◌, List, ℕ, [], Option, Some, None, Result, Ok, Err, length, take, refl, ap, sym, subst, ◌∙◌, arith}
+use Rattle.std.proofs.Common.{◌≡◌, List, ℕ, [], Some, Result, Ok, Err, length, refl, ap, sym, subst, ◌∙◌}
 use Rattle.std.proofs.Math.Seq.{take-length}
 use Rattle.name_space.specs.Script.{Script}
 use Rattle.script_text.specs.Grammar.{IsScriptText, IsRead}
@@ -7,7 +7,6 @@ use Rattle.script_text.specs.declared.fault.ScriptFault.{ScriptFault}
 use Rattle.script_text.specs.declared.fault.ScriptError.{ScriptError}
 use Rattle.script_text.specs.declared.fault.ScriptError.TheVariants.{Bad, NoMemory}
 use Rattle.hops_cli.specs.Transfer.{HasGiven}
-use Rattle.hops_cli.specs.Built.{unbuilt}
 use Rattle.hops_cli.proofs.BuiltLemmas.{built_from}
 use Rattle.hops_cli.proofs.Transfers.{HasGiven-none}
 use Rattle.hops_cli.proofs.run_script.Goals as goal

@@ -1,4 +1,4 @@
-use Rattle.std.proofs.Common.{◌≡◌, List, ℕ, [], Result, Ok, Err, refl, ap, sym, subst, ◌∙◌, arith}
+use Rattle.std.proofs.Common.{ℕ, [], Result, refl, sym, subst, ◌∙◌, arith}
 use Rattle.hops_cli.specs.declared.status.Status.TheVariants.{Usage}
 use Rattle.hops_cli.specs.declared.words.Command.{Command}
 use Rattle.hops_cli.specs.Ends.{Ends}

@@ -1,16 +1,6 @@
-use Rattle.std.proofs.Common.{◌≡◌, ◌∙◌, ap, map, List, take, length, arith}
-use Rattle.std.proofs.Math.Seq.{take-length}
-use Rattle.commit_log.specs.declared.note.Note.{Note}
-use Rattle.commit_log.specs.Losses.{stays_on}
-use Rattle.commit_log.specs.Reads.{lock_of}
-use Rattle.commit_log.proofs.LastingLemmas.{lasting-next, held_by_place, kept_from}
+use Rattle.std.specs.Vec.Iter.{into_iter_items}
+use Rattle.commit_log.proofs.LastingLemmas.{lasting-next}
 use Rattle.commit_log.proofs.held.lasting_locks.Goals as goal
 
-pub loop-i-preserved : goal.loop-i-preserved
-loop-i-preserved c = lasting-next (stays_on c.args.losses.now) c.args.notes.now c.loop-i.i c.index-notes-i.result c.loop-i.locks.items _ c.loop-i-test.true c.index-notes-i.is c.loop-i.invariant c.in_ok-add_lasting.ensures.ok
-
-pub returns : goal.returns
-returns c =
-    let all : c.loop-i.i ≡ length c.args.notes.now = omega (arith, c.loop-i-test.false, c.loop-i.auto.i-end) in
-    let end : take c.loop-i.i c.args.notes.now ≡ c.args.notes.now = ap (λ n. take n c.args.notes.now) all ∙ take-length c.args.notes.now in
-    c.loop-i.invariant ∙ ap (λ (ns : List Note). map lock_of (kept_from (stays_on c.args.losses.now) 0 ns)) end ∙ ap (map lock_of) (held_by_place c.args.notes.now c.args.losses.now c.requires)
+pub loop-taken-preserved : goal.loop-taken-preserved
+loop-taken-preserved c = lasting-next c.args.losses.now c.in-Some.taken (into_iter_items c.loop-taken.taken-iterator) (into_iter_items c.next.new.self) c.loop-taken.locks.items _ _ c.in-Some.ensures.steps.0 c.loop-taken.invariant c.in_ok-add_lasting.ensures.ok

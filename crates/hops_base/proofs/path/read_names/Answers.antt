@@ -1,4 +1,4 @@
-use Rattle.std.proofs.Common.{◌≡◌, ap, ◌∙◌, sym, true, map}
+use Rattle.std.proofs.Common.{◌≡◌, ◌∙◌, sym, true, map}
 use Rattle.std.specs.List.{list_all}
 use Rattle.hops_base.specs.Name.{is_name}
 use Rattle.hops_base.proofs.PathLemmas.{names_good}

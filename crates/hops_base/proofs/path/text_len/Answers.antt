@@ -1,4 +1,3 @@
-use Rattle.std.proofs.Common.{◌≡◌, ap, ◌∙◌, sym, refl}
 use Rattle.hops_base.proofs.PathLemmas.{len_grows}
 use Rattle.hops_base.proofs.path.text_len.Goals as goal
 

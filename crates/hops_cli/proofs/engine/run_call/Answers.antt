@@ -4,6 +4,7 @@ use Rattle.commit_log.specs.Samples.{client}
 use Rattle.db_state.specs.Written.{tables_of, next_after}
 use Rattle.inode_ops.specs.Table.{IsAnswer}
 use Rattle.hops_cli.proofs.CallLemmas.{names_good, few_ids, turned_by, answer_is, viewed}
+use Rattle.hops_cli.proofs.ReadLemmas.{reads_of_view}
 use Rattle.hops_cli.proofs.TurnLemmas.{consistent_next}
 use Rattle.hops_cli.proofs.engine.run_call.Goals as goal
 
@@ -33,3 +34,4 @@ returns c =
     turned_by c.args.db.now c.commit.new.self c.args.number c.args.call.now c.in_ok-view.reads c.in-Answer.reply c.in_ok-told.told c.in_ok-notes.notes.items c.in-Answer.writes.items c.len.result
     c.in_ok-commit.ensures.ok (rw (c.in_ok-notes.ensures.items, c.from.ensures, c.in_ok-copy.ensures) refl) (c.len.ensures ∙ ap length c.book.ensures) c.in_ok-told.ensures
     (few_ids c.args.db.now c.args.user.now c.args.call.now c.in_ok-view.view c.in_ok-view.reads c.in-Answer.reply c.in-Answer.writes.items c.requires.small c.requires.valid c.in_ok-view.ensures answer)
+    (reads_of_view c.args.db.now c.args.call.now c.in_ok-view.view c.in_ok-view.reads c.accord.ensures c.in_ok-view.ensures)

@@ -5,8 +5,11 @@ use Rattle.name_space.specs.Call.{is_valid}
 use Rattle.commit_log.specs.declared.answer.AnswerLine.{AnswerLine}
 use Rattle.commit_log.specs.Samples.{client}
 use Rattle.hops_cli.specs.Turning.{IsReady}
-use Rattle.hops_cli.proofs.LoopLemmas.{passes_at, ready, turned, few_calls}
+use Rattle.hops_cli.proofs.LoopLemmas.{passes_at, none_turned, ready, turned, few_calls}
 use Rattle.hops_cli.proofs.engine.run_client.Goals as goal
+
+pub loop-i-init : goal.loop-i-init
+loop-i-init c = none_turned c.args.client.now.user c.args.client.now.calls c.args.db.now c.args.answers.now.items c.requires.new
 
 pub run_call-requires-clause-ready : goal.run_call-requires-clause-ready
 run_call-requires-clause-ready c =

@@ -1,5 +1,5 @@
 use Rattle.std.proofs.Common.{refl}
-use Rattle.script_text.proofs.Literals.{on_literals}
+use Rattle.script_text.specs.Literals.{on_literals}
 use Rattle.report_text.proofs.laws.first_report_without_locks_is_written.Goals as goal
 
 pub returns : goal.returns

@@ -1,5 +1,5 @@
 use Rattle.std.proofs.Common.{refl}
-use Rattle.script_text.proofs.Literals.{on_literals}
+use Rattle.script_text.specs.Literals.{on_literals}
 use Rattle.script_text.proofs.laws.each_rule_is_told.Goals as goal
 
 pub returns-clause-cut : goal.returns-clause-cut

@@ -1,5 +1,5 @@
 use Rattle.std.proofs.Common.{refl}
-use Rattle.script_text.proofs.Literals.{on_literals}
+use Rattle.script_text.specs.Literals.{on_literals}
 use Rattle.script_text.proofs.laws.first_draws.Goals as goal
 
 pub returns : goal.returns

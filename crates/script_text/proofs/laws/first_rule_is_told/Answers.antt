@@ -1,5 +1,5 @@
 use Rattle.std.proofs.Common.{refl}
-use Rattle.script_text.proofs.Literals.{on_literals}
+use Rattle.script_text.specs.Literals.{on_literals}
 use Rattle.script_text.proofs.laws.first_rule_is_told.Goals as goal
 
 pub returns-clause-key_before_version : goal.returns-clause-key_before_version

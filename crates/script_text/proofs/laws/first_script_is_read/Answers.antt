@@ -3,7 +3,7 @@ use Rattle.serde_json.specs.Data.{Data, Members, string}
 use Rattle.script_text.specs.Json.{members, row, whole}
 use Rattle.script_text.specs.Form.{call_data, client_data}
 use Rattle.script_text.specs.Rows.{first_calls, first_script}
-use Rattle.script_text.proofs.Literals.{on_literals}
+use Rattle.script_text.specs.Literals.{on_literals}
 use Rattle.script_text.proofs.laws.first_script_is_read.Goals as goal
 
 -- the value of the calls

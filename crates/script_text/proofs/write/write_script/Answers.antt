@@ -1,6 +1,6 @@
 use Rattle.std.proofs.Common.{ap, ◌∙◌}
 use Rattle.serde_json.specs.Written.{has_float, compact_text}
-use Rattle.script_text.proofs.NoFloat.{no_float_in_script}
+use Rattle.script_text.specs.NoFloat.{no_float_in_script}
 use Rattle.script_text.proofs.WrittenText.{written_read}
 use Rattle.script_text.proofs.write.write_script.Goals as goal
 

@@ -1,4 +1,3 @@
-use Rattle.std.proofs.Common.{◌≡◌}
 use Rattle.hops_base.specs.Name.{is_name}
 use Rattle.hops_base.proofs.PathLemmas.{list_all-take}
 use Rattle.hops_base.proofs.path.Path.parent.Goals as goal

@@ -1,7 +1,8 @@
-use Rattle.std.proofs.Common.{◌≡◌, ◌≤◌, ap, ◌∙◌, sym, refl, map, length, arith, true}
+use Rattle.std.proofs.Common.{◌≡◌, ◌≤◌, ◌∙◌, sym, map, length, arith, true}
 use Rattle.std.proofs.lemmas.List.{length-map}
 use Rattle.hops_base.specs.Path.{is_absolute, names_in}
-use Rattle.hops_base.proofs.PathLemmas.{names_are_pieces, read_by_names, fault_of_short, short_when_read}
+use Rattle.hops_base.proofs.PathLemmas.{names_are_pieces, read_by_names, short_when_read}
+use Rattle.hops_base.specs.PathLaws.{fault_of_short}
 use Rattle.hops_base.proofs.path.Path.read.Goals as goal
 
 pub read_names-requires : goal.read_names-requires

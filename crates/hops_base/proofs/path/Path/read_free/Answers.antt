@@ -1,4 +1,4 @@
-use Rattle.std.proofs.Common.{◌≡◌, ap, ◌∙◌, sym, refl, map, true}
+use Rattle.std.proofs.Common.{◌≡◌, ◌∙◌, sym, map, true}
 use Rattle.hops_base.specs.Path.{is_absolute}
 use Rattle.hops_base.proofs.PathLemmas.{names_are_pieces, read_by_names, fault_of_free}
 use Rattle.hops_base.proofs.path.Path.read_free.Goals as goal
