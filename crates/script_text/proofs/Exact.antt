@@ -21,7 +21,7 @@ use Rattle.script_text.specs.declared.fault.ScriptFault.{ScriptFault}
 use Rattle.script_text.specs.Json.{whole, row, values_of, values_in, at_key, as_whole, is_within}
 use Rattle.script_text.specs.Form.{stop_data}
 use Rattle.script_text.specs.CallForms.{has_shape, CallForm, call_forms, has_form, refused_path, has_range}
-use Rattle.script_text.specs.Faults.{script_fault, value_of, data_fault, members_fault, has_known_keys, has_version, has_namenodes, may_count, may_persist, namenodes_in, has_clients, stops_fault, bad_stop, fault, stop_of, stops_node, is_next_stop, bad_path, unless, has, is_short_array, values_at, call_fault, has_both_keys, has_user, has_calls, client_members_fault, client_fault}
+use Rattle.script_text.specs.Faults.{script_fault, value_of, data_fault, members_fault, has_known_keys, has_version, has_namenodes, may_count, may_persist, namenodes_in, has_clients, stops_fault, bad_stop, fault, stop_of, stops_node, is_next_stop, bad_path, unless, has, is_short_array, values_at, call_fault, has_both_keys, has_user, has_calls, calls_fault, client_members_fault, client_fault, settings_fault, clients_fault}
 use Rattle.script_text.proofs.Canonical.{NoneStops, take-before}
 use Rattle.script_text.specs.Grammar.{NamesPaths, CanName, SaysCall, SaysClient, Says, IsScriptText}
 use Rattle.script_text.proofs.FormsExact.{unless-none, option_or-none, option_map-none, if_there, is_truth, otherwise, holds, CallSaid, Reads, all_read}
@@ -142,7 +142,8 @@ unfolding ClientSaid
 client_members_exact at ms h =
     let a = option_or-none (unless (has_both_keys ms) (fault 11 at 0)) _ h in
     let b = option_or-none (unless (has_user ms) (fault 12 at 0)) _ a.1 in
-    let c = option_or-none (unless (has_calls ms) (fault 13 at 0)) _ b.1 in
+    let both = option_or-none (calls_fault at ms) None b.1 in
+    let c = option_or-none (unless (has_calls ms) (fault 13 at 0)) _ both.0 in
     let d = option_or-none (first_some (map (call_fault at) (enumerate_from 1 (values_at "calls" ms)))) None c.1 in
     let u = if_there (λ value. option_map_or is_user (as_str value) false) (at_key "user" ms) (unless-none _ _ b.0) in
     let t = if_there is_user (as_str u.0) u.2 in
@@ -275,14 +276,16 @@ stops_at namenodes (Some value) h = stops_in namenodes value (as_array value) re
 -- the members of a script without a fault say it
 pub members_exact : (ms : Members) → members_fault ms ≡ None → (script : Script) × IsScript script × CanName script × Says ms script
 members_exact ms h =
-    let keys = option_or-none (unless (has_known_keys ms) (fault 3 0 0)) _ h in
+    let settings = option_or-none (settings_fault ms) _ h in
+    let stops = option_or-none (option_and_then (stops_fault (namenodes_in ms)) (at_key "stops" ms)) _ settings.1 in
+    let all = option_or-none (clients_fault ms) None stops.1 in
+    let keys = option_or-none (unless (has_known_keys ms) (fault 3 0 0)) _ settings.0 in
     let version = option_or-none (unless (has_version ms) (fault 4 0 0)) _ keys.1 in
     let namenodes = option_or-none (unless (has_namenodes ms) (fault 5 0 0)) _ version.1 in
     let tries = option_or-none (unless (may_count "tries" ms) (fault 6 0 0)) _ namenodes.1 in
     let grace = option_or-none (unless (may_count "grace" ms) (fault 7 0 0)) _ tries.1 in
-    let persist = option_or-none (unless (may_persist ms) (fault 8 0 0)) _ grace.1 in
-    let stops = option_or-none (option_and_then (stops_fault (namenodes_in ms)) (at_key "stops" ms)) _ persist.1 in
-    let clients = option_or-none (unless (has_clients ms) (fault 10 0 0)) _ stops.1 in
+    let persist = option_or-none (unless (may_persist ms) (fault 8 0 0)) None grace.1 in
+    let clients = option_or-none (unless (has_clients ms) (fault 10 0 0)) _ all.0 in
     let each = option_or-none (first_some (map client_fault (enumerate_from 0 (values_at "clients" ms)))) None clients.1 in
     let v = if_there (is_within 1 16) (at_key "namenodes" ms) (unless-none _ _ namenodes.0) in
     let n = if_there (λ n. nat_le 1 n && nat_le n 16) (as_whole v.0) v.2 in

@@ -22,10 +22,10 @@ use Rattle.script_text.specs.declared.fault.ScriptError.{ScriptError}
 use Rattle.script_text.specs.declared.fault.ScriptError.TheVariants.{Bad, NoMemory}
 use Rattle.script_text.specs.Json.{whole, row, values_of, at_key, as_whole, optional}
 use Rattle.script_text.specs.CallForms.{has_shape, has_form, refused_path, has_range, behind_name, form_named, named_by}
-use Rattle.script_text.specs.Faults.{fault, unless, members_fault, has_known_keys, has_version, has_namenodes, may_count, may_persist, namenodes_in, stops_fault, bad_stop, call_fault, client_fault, stop_of, stops_node, is_next_stop}
+use Rattle.script_text.specs.Faults.{fault, unless, members_fault, settings_fault, clients_fault, calls_fault, has_known_keys, has_version, has_namenodes, may_count, may_persist, namenodes_in, stops_fault, bad_stop, call_fault, client_fault, stop_of, stops_node, is_next_stop}
 use Rattle.script_text.specs.Grammar.{SaysCall, Says}
-use Rattle.script_text.specs.Reading.{IsReadOf, stop_after, early_fault, HasClients, call_made, calls_fault, clients_fault}
-use Rattle.script_text.proofs.FormsExact.{unless-none}
+use Rattle.script_text.specs.Reading.{IsReadOf, stop_after, HasClients, call_made}
+use Rattle.script_text.proofs.FormsExact.{unless-none, option_or-none}
 use Rattle.script_text.proofs.Exact.{stop_is, members_exact, some_call_said, is_array, items_of-values_of}
 
 -- the answer is this error
@@ -239,30 +239,23 @@ stops_fault_is namenodes value values is = sym (ap (stops_fault namenodes) is �
 
 -- ---- scripts
 
--- six that are not there stand before the rest
-six : (a b c d e f rest : Option ScriptFault) → first_some (a ∷ b ∷ c ∷ d ∷ e ∷ f ∷ []) ≡ None → (option_or a (option_or b (option_or c (option_or d (option_or e (option_or f rest))))) ≡ rest) × (f ≡ None)
-six (Some x) b c d e f rest h = cc
-six None (Some x) c d e f rest h = cc
-six None None (Some x) d e f rest h = cc
-six None None None (Some x) e f rest h = cc
-six None None None None (Some x) f rest h = cc
-six None None None None None (Some x) rest h = cc
-six None None None None None None rest h = (refl, refl)
+-- settings without a fault say by a truth value whether calls persist
+pub settings_persist : (ms : Members) → settings_fault ms ≡ None → may_persist ms ≡ true
+settings_persist ms h =
+    let keys = option_or-none (unless (has_known_keys ms) (fault 3 0 0)) _ h in
+    let version = option_or-none (unless (has_version ms) (fault 4 0 0)) _ keys.1 in
+    let namenodes = option_or-none (unless (has_namenodes ms) (fault 5 0 0)) _ version.1 in
+    let tries = option_or-none (unless (may_count "tries" ms) (fault 6 0 0)) _ namenodes.1 in
+    let grace = option_or-none (unless (may_count "grace" ms) (fault 7 0 0)) _ tries.1 in
+    unless-none (may_persist ms) (fault 8 0 0) (option_or-none (unless (may_persist ms) (fault 8 0 0)) None grace.1).0
 
--- behind rules 3 to 8 come the stops and the clients
-pub early_rest : (ms : Members) → early_fault ms ≡ None → (members_fault ms ≡ option_or (option_and_then (stops_fault (namenodes_in ms)) (at_key "stops" ms)) (clients_fault ms)) × (may_persist ms ≡ true)
-early_rest ms h =
-    let both = six (unless (has_known_keys ms) (fault 3 0 0)) (unless (has_version ms) (fault 4 0 0)) (unless (has_namenodes ms) (fault 5 0 0)) (unless (may_count "tries" ms) (fault 6 0 0)) (unless (may_count "grace" ms) (fault 7 0 0)) (unless (may_persist ms) (fault 8 0 0))
-    (option_or (option_and_then (stops_fault (namenodes_in ms)) (at_key "stops" ms)) (clients_fault ms)) h in
-    (both.0, unless-none (may_persist ms) (fault 8 0 0) both.1)
-
--- the fault of the clients is that of the members where the stops have none
-pub clients_later : (ms : Members) (told : ScriptFault) → early_fault ms ≡ None → option_and_then (stops_fault (namenodes_in ms)) (at_key "stops" ms) ≡ None → clients_fault ms ≡ Some told → members_fault ms ≡ Some told
-clients_later ms told early stops clients = (early_rest ms early).0 ∙ (λ i. option_or (stops i) (clients i))
+-- the fault of the clients is that of the members where the settings and the stops have none
+pub clients_later : (ms : Members) (told : ScriptFault) → settings_fault ms ≡ None → option_and_then (stops_fault (namenodes_in ms)) (at_key "stops" ms) ≡ None → clients_fault ms ≡ Some told → members_fault ms ≡ Some told
+clients_later ms told settings stops clients = (λ i. option_or (settings i) (option_or (stops i) (option_or (clients i) None)))
 
 -- the members have no fault where none of their parts has one
-pub joined : (ms : Members) → early_fault ms ≡ None → option_and_then (stops_fault (namenodes_in ms)) (at_key "stops" ms) ≡ None → clients_fault ms ≡ None → members_fault ms ≡ None
-joined ms early stops clients = (early_rest ms early).0 ∙ (λ i. option_or (stops i) (clients i))
+pub joined : (ms : Members) → settings_fault ms ≡ None → option_and_then (stops_fault (namenodes_in ms)) (at_key "stops" ms) ≡ None → clients_fault ms ≡ None → members_fault ms ≡ None
+joined ms settings stops clients = (λ i. option_or (settings i) (option_or (stops i) (option_or (clients i) None)))
 
 -- the members say the script that was read of them
 pub members_read : (ms : Members) (script : Script) → members_fault ms ≡ None

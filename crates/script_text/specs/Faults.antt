@@ -76,9 +76,13 @@ has_user = has "user" (λ value. option_map_or is_user (as_str value) false)
 abbrev pub has_calls : Members → Bool
 has_calls = has "calls" (is_short_array most_calls)
 
--- what is wrong with the members of a client: the first of rules 11, 12 and 13, and then the first bad call
+-- what is wrong with the calls of the client at a place: rule 13, and then the first bad call
+abbrev pub calls_fault : ℕ → Members → Option ScriptFault
+calls_fault at ms = first_some (unless (has_calls ms) (fault 13 at 0) ∷ first_some (map (call_fault at) (enumerate_from 1 (values_at "calls" ms))) ∷ [])
+
+-- what is wrong with the members of a client: the first of rules 11 and 12, and then its calls
 abbrev pub client_members_fault : ℕ → Members → Option ScriptFault
-client_members_fault at ms = first_some (unless (has_both_keys ms) (fault 11 at 0) ∷ unless (has_user ms) (fault 12 at 0) ∷ unless (has_calls ms) (fault 13 at 0) ∷ first_some (map (call_fault at) (enumerate_from 1 (values_at "calls" ms))) ∷ [])
+client_members_fault at ms = first_some (unless (has_both_keys ms) (fault 11 at 0) ∷ unless (has_user ms) (fault 12 at 0) ∷ calls_fault at ms ∷ [])
 
 -- what is wrong with a client; it breaks rule 11 also where it is no object
 abbrev pub client_fault : ℕ × Data → Option ScriptFault
@@ -147,9 +151,9 @@ namenodes_in ms = unwrap_or (option_and_then as_whole (at_key "namenodes" ms)) 0
 abbrev pub has_clients : Members → Bool
 has_clients = has "clients" (is_short_array most_clients)
 
--- what is wrong with the members of a script: the first of rules 3 to 10, and then the first bad client
-abbrev pub members_fault : Members → Option ScriptFault
-members_fault ms =
+-- what is wrong with the settings of a script: the first of rules 3 to 8
+abbrev pub settings_fault : Members → Option ScriptFault
+settings_fault ms =
     first_some (
     unless (has_known_keys ms) (fault 3 0 0)
     ∷ unless (has_version ms) (fault 4 0 0)
@@ -157,11 +161,16 @@ members_fault ms =
     ∷ unless (may_count "tries" ms) (fault 6 0 0)
     ∷ unless (may_count "grace" ms) (fault 7 0 0)
     ∷ unless (may_persist ms) (fault 8 0 0)
-    ∷ option_and_then (stops_fault (namenodes_in ms)) (at_key "stops" ms)
-    ∷ unless (has_clients ms) (fault 10 0 0)
-    ∷ first_some (map client_fault (enumerate_from 0 (values_at "clients" ms)))
     ∷ []
     )
+
+-- what is wrong with the clients of a script: rule 10, and then the first bad client
+abbrev pub clients_fault : Members → Option ScriptFault
+clients_fault ms = first_some (unless (has_clients ms) (fault 10 0 0) ∷ first_some (map client_fault (enumerate_from 0 (values_at "clients" ms))) ∷ [])
+
+-- what is wrong with the members of a script: its settings, its stops (rule 9), and then its clients
+abbrev pub members_fault : Members → Option ScriptFault
+members_fault ms = first_some (settings_fault ms ∷ option_and_then (stops_fault (namenodes_in ms)) (at_key "stops" ms) ∷ clients_fault ms ∷ [])
 
 -- what is wrong with a value; rule 2: it is an object
 abbrev pub data_fault : Data → Option ScriptFault

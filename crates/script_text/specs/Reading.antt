@@ -1,6 +1,6 @@
 -- What readers of parts of a script answer. This project's own.
 use Prim.Native.String.{String}
-use Rattle.std.specs.Prelude.{◌≡◌, ◌==◌, ℕ, Bool, false, if◌then◌else◌, List, [], ◌∷◌, map, slice_get, Option, Some, None, option_and_then, unwrap_or, bytes_eq, codes, Result, Ok, Err, ⊤}
+use Rattle.std.specs.Prelude.{◌≡◌, ◌==◌, ℕ, Bool, false, if◌then◌else◌, List, [], ◌∷◌, slice_get, Option, Some, None, option_and_then, unwrap_or, bytes_eq, codes, Result, Ok, Err, ⊤}
 use Rattle.hops_base.specs.Path.{names_in}
 use Rattle.name_space.specs.Script.{ClientCalls, Script, is_stop}
 use Rattle.name_space.specs.declared.call.Call.{Call}
@@ -11,11 +11,10 @@ use Rattle.script_text.specs.declared.fault.ScriptError.{ScriptError}
 use Rattle.script_text.specs.declared.fault.ScriptError.TheVariants.{Bad, NoMemory}
 use Rattle.script_text.specs.declared.fault.ScriptFault.{ScriptFault}
 use Rattle.script_text.specs.Json.{row, at_key, as_whole}
-use Rattle.std.specs.List.{AllZip, enumerate_from, list_any}
-use Rattle.hops_base.specs.First.{first_some}
+use Rattle.std.specs.List.{AllZip, list_any}
 use Rattle.hops_base.specs.declared.ids.NodeNo.{NodeNo}
 use Rattle.hops_base.specs.User.{is_user}
-use Rattle.script_text.specs.Faults.{fault, unless, stop_of, has_known_keys, has_version, has_namenodes, may_count, may_persist, has_clients, has_calls, values_at, client_fault, call_fault}
+use Rattle.script_text.specs.Faults.{fault, stop_of}
 use Rattle.script_text.specs.Grammar.{SaysCall, SaysClient, Says}
 
 -- what a reader of a part answers: something that the part says, where it has no fault, or its fault; want of memory is free
@@ -72,32 +71,11 @@ call_made name rest =
 abbrev pub SaysScript : Data → Script → Type 0
 SaysScript value script = (ms : Members) × (value ≡ object ms) × Says ms script
 
--- ---- the rules of a document, in parts
-
--- rules 3 to 8
-abbrev pub early_fault : Members → Option ScriptFault
-early_fault ms =
-    first_some (
-    unless (has_known_keys ms) (fault 3 0 0)
-    ∷ unless (has_version ms) (fault 4 0 0)
-    ∷ unless (has_namenodes ms) (fault 5 0 0)
-    ∷ unless (may_count "tries" ms) (fault 6 0 0)
-    ∷ unless (may_count "grace" ms) (fault 7 0 0)
-    ∷ unless (may_persist ms) (fault 8 0 0)
-    ∷ []
-    )
-
--- rule 10, and the first bad client
-abbrev pub clients_fault : Members → Option ScriptFault
-clients_fault ms = first_some (unless (has_clients ms) (fault 10 0 0) ∷ first_some (map client_fault (enumerate_from 0 (values_at "clients" ms))) ∷ [])
+-- ---- what the members of a script and of a client say
 
 -- the members say these clients
 abbrev pub HasClients : Members → List ClientCalls → Type 0
 HasClients ms clients = (values : List Data) × (at_key "clients" ms ≡ Some (row values)) × AllZip SaysClient values clients
-
--- rule 13, and the first bad call of the client at a place
-abbrev pub calls_fault : ℕ → Members → Option ScriptFault
-calls_fault at ms = first_some (unless (has_calls ms) (fault 13 at 0) ∷ first_some (map (call_fault at) (enumerate_from 1 (values_at "calls" ms))) ∷ [])
 
 -- the members say these calls
 abbrev pub HasCalls : Members → List Call → Type 0

@@ -8,9 +8,9 @@ ghost use Rattle.serde_json.specs.Find.{get_member};
 ghost use Rattle.serde_json.specs.View.{view, members_view};
 ghost use Rattle.script_text.specs.Json.{row, at_key, as_whole, is_within};
 ghost use Rattle.script_text.specs.Form.{stop_data};
-ghost use Rattle.script_text.specs.Faults.{fault, value_of, data_fault, members_fault, has_known_keys, may_count, may_persist, stops_fault, client_fault, client_members_fault, call_fault, has_both_keys, has_in, may_have_in, is_count_data};
+ghost use Rattle.script_text.specs.Faults.{fault, value_of, data_fault, members_fault, settings_fault, clients_fault, calls_fault, has_known_keys, may_count, may_persist, stops_fault, client_fault, client_members_fault, call_fault, has_both_keys, has_in, may_have_in, is_count_data};
 ghost use Rattle.script_text.specs.Grammar.{SaysCall, HasClient, SaysClient, Says, IsRead};
-ghost use Rattle.script_text.specs.Reading.{IsReadOf, SaysScript, early_fault, clients_fault, HasClients, calls_fault, HasCalls, user_in};
+ghost use Rattle.script_text.specs.Reading.{IsReadOf, SaysScript, HasClients, HasCalls, user_in};
 
 use crate::fault::{ScriptError, ScriptFault};
 use crate::members::{Members, array_at, has_only, key_count, text_at, value_at, whole_at};
@@ -61,7 +61,7 @@ fn script_in(alloc: Global, value: &Value) -> Result<Script, ScriptError>
 fn script_of(alloc: Global, members: &Members) -> Result<Script, ScriptError>
     ensures { IsReadOf (members_fault (members_view members.now.entries)) (Says (members_view members.now.entries)) result }
 {
-    if let Some(fault) = early_fault(members) {
+    if let Some(fault) = settings_fault(members) {
         return Err(ScriptError::Bad(fault));
     }
     let namenodes = count_at(members, "namenodes", 0);
@@ -77,9 +77,9 @@ fn script_of(alloc: Global, members: &Members) -> Result<Script, ScriptError>
     ))
 }
 
-// The first of rules 3 to 8 that the members break.
-fn early_fault(members: &Members) -> Option<ScriptFault>
-    ensures { result ≡ early_fault (members_view members.now.entries) }
+// What is wrong with the settings: the first of rules 3 to 8.
+fn settings_fault(members: &Members) -> Option<ScriptFault>
+    ensures { result ≡ settings_fault (members_view members.now.entries) }
 {
     if !has_known_keys(members) {
         return Some(ScriptFault::new(3, 0, 0));
