@@ -1,5 +1,5 @@
 -- Laws of rows of which one changes: another of the same id and kind takes its place under its key.
-use Rattle.std.proofs.Common.{◌≡◌, ◌≢◌, ℕ, ◌≤◌, ◌<◌, true, false, ◌==◌, cond, List, [], ◌∷◌, reverse, Option, Some, None, is_some, option_map, ◌⊎◌, inl, inr, refl, sym, ap, subst, ◌∙◌, eqb-true, eq-eqb}
+use Rattle.std.proofs.Common.{◌≡◌, ◌≢◌, ℕ, ◌≤◌, ◌<◌, true, false, ◌==◌, cond, List, [], ◌∷◌, reverse, Option, Some, None, is_some, option_map, option_and_then, ◌⊎◌, inl, inr, refl, sym, ap, subst, ◌∙◌, eqb-true, eq-eqb}
 use Rattle.std.specs.FinMap as map
 use Rattle.std.specs.FinMap.Entries.{find-put}
 use Rattle.std.proofs.lemmas.List.{reverse-reverse}
@@ -15,7 +15,8 @@ use Rattle.commit_log.specs.Ids.{Numbering}
 use Rattle.db_state.specs.State.{root_key}
 use Rattle.db_state.specs.Spelled.{Inodes, child_of, spelled, row_of, IsTree, AreGiven}
 use Rattle.db_state.specs.Stands.{Quotas, quota_of, entry_of, Stands}
-use Rattle.db_state.specs.Consistent.{IsUnflagged}
+use Rattle.db_state.specs.Consistent.{flag_at}
+use Rattle.db_state.specs.FlagLaws.{flags_with}
 use Rattle.db_state.specs.PathLaws.{same_id, injective}
 
 -- the new row in place of that with its id
@@ -174,9 +175,6 @@ module _ (inodes : Inodes) (next : ℕ) (tree : IsTree inodes next) (at : Key) (
       let was = found_before new (row_of inodes path) x (sym (changed_spelled (reverse path)) ∙ e) in
       given path was.0 was.1 ∙ ap (λ (i : InodeId). Some i.0) (sym (swapped-id new was.0) ∙ ap (λ (r : Inode). r.id) was.2)
 
-  -- and bear no flags, where the new one bears the old one's
-  pub unflagged_changed : IsUnflagged inodes → new.flag ≡ old.flag → IsUnflagged (map.insert inodes at new)
-  unflagged_changed unflagged flags k x e = elim (changed_key k x e) [
-    | inl h ↦ ap (λ (r : Inode). r.flag) h.1 ∙ flags ∙ unflagged at old there
-    | inr h ↦ unflagged k x h.1
-  ]
+  -- and bear the flags that they bore, where the new one bears the old one's
+  pub flags_changed : new.flag ≡ old.flag → (k : Key) → flag_at (map.insert inodes at new) k ≡ flag_at inodes k
+  flags_changed same = flags_with inodes at new (same ∙ sym (ap (option_and_then (λ (r : Inode). r.flag)) there))

@@ -1,7 +1,8 @@
 -- What always holds between the tables and the book. This project's own.
-use Rattle.std.specs.Prelude.{◌≡◌, [], Some, None}
+use Rattle.std.specs.Prelude.{◌≡◌, true, [], Option, Some, None, is_some, option_and_then}
 use Rattle.std.specs.FinMap as map
 use Rattle.hops_base.specs.declared.key.Key.{Key}
+use Rattle.hops_base.specs.declared.ids.OpId.{OpId}
 use Rattle.name_space.specs.Namespace.{IsNamespace}
 use Rattle.inode_table.specs.declared.inode.Inode.{Inode}
 use Rattle.commit_log.specs.Legal.{Legal, space}
@@ -13,6 +14,14 @@ use Rattle.db_state.specs.Counts.{Counts}
 -- no row bears the flag of an operation
 abbrev pub IsUnflagged : Inodes → Type 0
 IsUnflagged inodes = (at : Key) (row : Inode) → map.get inodes at ≡ Some row → row.flag ≡ None
+
+-- the flag that the row of a key bears
+abbrev pub flag_at : Inodes → Key → Option OpId
+flag_at inodes at = option_and_then (λ (row : Inode). row.flag) (map.get inodes at)
+
+-- each row bears the flag that the row of its key bore before, and a row of a new key bears none
+abbrev pub FlagsStay : Inodes → Inodes → Type 0
+FlagsStay old new = (at : Key) → is_some (map.get new at) ≡ true → flag_at new at ≡ flag_at old at
 
 -- the rows spell a tree, with the ids that the history gives its paths; the history is legal, and leads to a namespace;
 -- and the rows stand for that, with quota rows that count it; no operation runs yet, so no row bears a flag

@@ -1,5 +1,5 @@
 -- Laws of rows that grow by a chain of new directories and a new file below them.
-use Rattle.std.proofs.Common.{◌≡◌, ℕ, ◌+◌, ◌≤◌, max, List, [], ◌∷◌, ◌++◌, length, reverse, Bool, true, false, cond, Option, Some, None, arith, add-zero, suc, refl, sym, ap, subst, ◌∙◌, inl, inr}
+use Rattle.std.proofs.Common.{◌≡◌, ℕ, ◌+◌, ◌≤◌, max, List, [], ◌∷◌, ◌++◌, length, reverse, Bool, true, false, cond, Option, Some, None, option_and_then, arith, add-zero, suc, refl, sym, ap, subst, ◌∙◌}
 use Rattle.std.specs.FinMap as map
 use Rattle.std.proofs.lemmas.List.{reverse-reverse, append_assoc, append-nil}
 use Rattle.hops_base.specs.declared.ids.ClientNo.{ClientNo}
@@ -7,8 +7,6 @@ use Rattle.hops_base.specs.declared.ids.InodeId.{InodeId}
 use Rattle.hops_base.specs.declared.key.Key.{Key}
 use Rattle.hops_base.specs.declared.key.Key.TheVariants as key
 use Rattle.hops_base.specs.Path.{path_cmp, same_path}
-use Rattle.hops_base.specs.Key.{key_cmp_total, same_key}
-use Rattle.hops_base.specs.Tells.{keys_tell}
 use Rattle.name_space.specs.Namespace as spaces
 use Rattle.name_space.specs.declared.entry.Entry.{Entry}
 use Rattle.name_space.specs.Namespace.{Namespace, Path, entry_at, with_entry}
@@ -21,7 +19,8 @@ use Rattle.commit_log.specs.Ids.{Numbering, with_new}
 use Rattle.db_state.specs.State.{Tables, new_dir}
 use Rattle.db_state.specs.Spelled.{Inodes, spelled, IsTree, AreGiven}
 use Rattle.db_state.specs.Stands.{Quotas, entry_of, Stands}
-use Rattle.db_state.specs.Consistent.{IsUnflagged}
+use Rattle.db_state.specs.Consistent.{flag_at}
+use Rattle.db_state.specs.FlagLaws.{flags_with}
 use Rattle.db_state.specs.Written.{with_row, written, next_with, next_after}
 use Rattle.db_state.specs.declared.writes.Row.{Row}
 use Rattle.db_state.specs.declared.writes.Row.TheVariants as row
@@ -166,27 +165,20 @@ dirs_last (p ∷ paths) space owner path entry q = dirs_last paths (with_entry s
 
 -- ---- flags
 
--- a row without a flag leaves the rows so
-pub unflagged_with : (inodes : Inodes) (at : Key) (new : Inode) → IsUnflagged inodes → new.flag ≡ None → IsUnflagged (map.insert inodes at new)
-unflagged_with inodes at new unflagged plain k x e =
-    let got : cond (same_key k at) (Some new) (map.get inodes k) ≡ Some x = sym (map.get-insert key_cmp_total inodes at new k) ∙ e in
-    elim (keys_tell k at) [
-      | inl h ↦ (let same : Some new ≡ Some x = rw h.0 at got in let is : new ≡ x = cc in ap (λ (r : Inode). r.flag) (sym is) ∙ plain)
-      | inr h ↦ (let same = rw h.0 at got in unflagged k x same)
-    ]
-
--- new directories bear none
-pub unflagged_chained : (names : List (List ℕ)) (tables : Tables) (parent next : ℕ) (owner : List ℕ) → IsUnflagged tables.inodes → IsUnflagged (written tables (new_dirs parent next owner names)).inodes
-unflagged_chained [] tables parent next owner unflagged = unflagged
-unflagged_chained (name ∷ names) tables parent next owner unflagged =
-    unflagged_chained names (record { inodes = map.insert tables.inodes (key.Inode (record { 0 = parent }) name) (new_dir next owner); quotas = tables.quotas }) next (next + 1) owner
-    (unflagged_with tables.inodes (key.Inode (record { 0 = parent }) name) (new_dir next owner) unflagged refl)
-
--- nor does a new file
-pub unflagged_filed : (names : List (List ℕ)) (tables : Tables) (parent next : ℕ) (owner last : List ℕ) (client : ClientNo) → IsUnflagged tables.inodes → IsUnflagged (written tables (new_file_rows parent next owner names last client)).inodes
-unflagged_filed names tables parent next owner last client unflagged =
-    subst (λ (t : Tables). IsUnflagged t.inodes) (sym (written_file names tables parent next owner last client))
-    (unflagged_with (written tables (new_dirs parent next owner names)).inodes (key.Inode (record { 0 = last_dir parent next names }) last) (new_file (next + length names) client owner) (unflagged_chained names tables parent next owner unflagged) refl)
+-- new directories leave all flags
+pub flags_chained : (names : List (List ℕ)) (tables : Tables) (next : ℕ) (tree : IsTree tables.inodes next) (dir : List (List ℕ)) (parent : Inode) (owner : List ℕ) → spelled tables.inodes dir ≡ Some parent → parent.kind ≡ Dir → FirstMissing tables.inodes parent.id names
+    → (k : Key) → flag_at (written tables (new_dirs parent.id.0 next owner names)).inodes k ≡ flag_at tables.inodes k
+flags_chained [] tables next tree dir parent owner at is_dir none k = refl
+flags_chained (name ∷ names) tables next tree dir parent owner at is_dir none k =
+    let inodes : Inodes = tables.inodes in
+    let new : Inode = new_dir next owner in
+    let after : Tables = with_inode tables parent name new in
+    let free : next ≤ new.id.0 = omega arith in
+    let grown = tree_grown inodes next tree dir parent name new at none free is_dir in
+    let there = new_spelled inodes next tree dir parent name new at none free in
+    let absent : new.flag ≡ flag_at inodes (key.Inode parent.id name) = sym (ap (option_and_then (λ (r : Inode). r.flag)) none) in
+    flags_chained names after (next + 1) grown (name ∷ dir) new owner there refl (under_new names inodes next tree dir parent name new at none free) k
+    ∙ flags_with inodes (key.Inode parent.id name) new absent k
 
 -- ---- the rows with the file
 
@@ -214,6 +206,15 @@ module _ (names : List (List ℕ)) (tables : Tables) (next : ℕ) (tree : IsTree
       let low = chain_end names tables next tree dir parent owner last at is_dir none in
       subst (λ (inodes : Inodes). IsTree inodes (next + length names + 1)) (filed_rows low.0 low.1.numbered)
       (tree_grown (written tables (new_dirs parent.id.0 next owner names)).inodes (next + length names) made_tree (reverse (reverse dir ++ names)) low.0 last (new_file (next + length names) client owner) low.1.there low.1.free (omega arith) low.1.folder)
+
+  -- they bear the flags that they bore
+  pub flags_filed : (k : Key) → flag_at (written tables (new_file_rows parent.id.0 next owner names last client)).inodes k ≡ flag_at tables.inodes k
+  flags_filed k =
+      let low = chain_end names tables next tree dir parent owner last at is_dir none in
+      let absent : None ≡ flag_at made (key.Inode low.0.id last) = sym (ap (option_and_then (λ (r : Inode). r.flag)) low.1.free) in
+      ap (λ (inodes : Inodes). flag_at inodes k) (sym (filed_rows low.0 low.1.numbered))
+      ∙ flags_with made (key.Inode low.0.id last) (new_file (next + length names) client owner) absent k
+      ∙ flags_chained names tables next tree dir parent owner at is_dir (first_missing names tables.inodes parent.id last none) k
 
   -- the file's path
   pub path_is : reverse (last ∷ reverse (reverse dir ++ names)) ≡ reverse dir ++ (names ++ last ∷ [])

@@ -7,6 +7,7 @@ pub mod CountLaws
 pub mod Counts
 pub mod Current
 pub mod FileLaws
+pub mod FlagLaws
 pub mod GrowthLaws
 pub mod LimitLaws
 pub mod ListLaws

@@ -1,7 +1,8 @@
 -- Laws of rows of which one goes that has no row under it and isn't the root's.
-use Rattle.std.proofs.Common.{◌≡◌, ◌≢◌, ℕ, Bool, true, false, cond, List, [], ◌∷◌, reverse, Option, Some, None, is_some, option_map, inl, inr, refl, sym, ap, subst, ◌∙◌}
+use Rattle.std.proofs.Common.{◌≡◌, ◌≢◌, ℕ, Bool, true, false, cond, List, [], ◌∷◌, reverse, Option, Some, None, is_some, option_map, option_and_then, inl, inr, refl, sym, ap, subst, ◌∙◌}
 use Rattle.std.specs.Option.{option_or}
 use Rattle.std.specs.FinMap as map
+use Rattle.std.proofs.lemmas.Bool.{true≢false}
 use Rattle.std.proofs.lemmas.List.{reverse-reverse}
 use Rattle.hops_base.specs.declared.ids.InodeId.{InodeId}
 use Rattle.hops_base.specs.declared.key.Key.{Key}
@@ -16,7 +17,7 @@ use Rattle.commit_log.specs.Ids.{Numbering, id_at}
 use Rattle.db_state.specs.State.{root_key}
 use Rattle.db_state.specs.Spelled.{Inodes, child_of, spelled, row_of, IsTree, AreGiven}
 use Rattle.db_state.specs.Stands.{Quotas, quota_of, entry_of_kind, entry_of, Stands}
-use Rattle.db_state.specs.Consistent.{IsUnflagged}
+use Rattle.db_state.specs.Consistent.{flag_at, FlagsStay}
 use Rattle.db_state.specs.PathLaws.{same_id, injective}
 use Rattle.db_state.specs.ChangeLaws.{same_reversed}
 
@@ -129,9 +130,13 @@ module _ (inodes : Inodes) (next : ℕ) (tree : IsTree inodes next) (at : Key) (
             );
       }
 
-  -- and bear no flags still
-  pub unflagged_removed : IsUnflagged inodes → IsUnflagged (map.remove inodes at)
-  unflagged_removed unflagged k x e = unflagged k x (left_key k x e).1
+  -- and bear the flags that they bore
+  pub flags_removed : FlagsStay inodes (map.remove inodes at)
+  flags_removed k some = left (map.get (map.remove inodes at) k) refl some
+    where
+      left : (o : Option Inode) → map.get (map.remove inodes at) k ≡ o → is_some o ≡ true → flag_at (map.remove inodes at) k ≡ flag_at inodes k
+      left None e some = absurd (true≢false (sym some))
+      left (Some x) e some = ap (option_and_then (λ (r : Inode). r.flag)) (e ∙ sym (left_key k x e).1)
 
   module _ (path : Path) (here : row_of inodes path ≡ Some old) where
     -- in paths from the root on

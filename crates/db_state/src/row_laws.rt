@@ -22,7 +22,7 @@ ghost use Rattle.db_state.specs.Spelled.{Inodes, spelled, row_of, IsTree, AreGiv
 ghost use Rattle.db_state.specs.Stands.{Quotas, quota_of, entry_of, Stands};
 ghost use Rattle.db_state.specs.Counts.{Counts};
 ghost use Rattle.db_state.specs.Current.{listed_under};
-ghost use Rattle.db_state.specs.Consistent.{IsUnflagged};
+ghost use Rattle.db_state.specs.Consistent.{IsUnflagged, FlagsStay};
 ghost use Rattle.db_state.specs.Written.{written};
 ghost use Rattle.db_state.specs.NewDirs.{new_dirs, paths_below, FirstMissing, Unremoved};
 ghost use Rattle.db_state.specs.NewFile.{new_file_rows};
@@ -85,12 +85,15 @@ pub fn children_are_listed_as_their_rows()
         map_list plain.listed (children space path) ≡ listed_under inodes row.id }
 {}
 
-/// No row bears a flag after a row changed that bears what the old one bore, after a row went, or after a file
-/// came.
-pub fn no_flag_comes_along()
-    ensures changed { (inodes : Inodes) (next : ℕ) → IsTree inodes next → (at : Key) (old new : Inode) → map.get inodes at ≡ Some old → new.id ≡ old.id → IsUnflagged inodes → new.flag ≡ old.flag → IsUnflagged (map.insert inodes at new) }
-    ensures gone { (inodes : Inodes) (next : ℕ) → IsTree inodes next → (at : Key) (old : Inode) → map.get inodes at ≡ Some old → ((name : List ℕ) → map.get inodes (key.Inode old.id name) ≡ None) → at ≢ root_key → IsUnflagged inodes → IsUnflagged (map.remove inodes at) }
-    ensures file { (names : List (List ℕ)) (tables : Tables) (parent next : ℕ) (owner last : List ℕ) (client : ClientNo) → IsUnflagged tables.inodes → IsUnflagged (written tables (new_file_rows parent next owner names last client)).inodes }
+/// Each row bears the flag that the row of its key bore, and a row of a new key bears none, after a row changed
+/// that bears what the old one bore, after a row went, and after new directories and a file came. So where no row
+/// bore a flag, none does then.
+pub fn flags_stay()
+    ensures changed { (inodes : Inodes) (next : ℕ) → IsTree inodes next → (at : Key) (old new : Inode) → map.get inodes at ≡ Some old → new.id ≡ old.id → new.flag ≡ old.flag → FlagsStay inodes (map.insert inodes at new) }
+    ensures gone { (inodes : Inodes) (next : ℕ) → IsTree inodes next → (at : Key) (old : Inode) → map.get inodes at ≡ Some old → ((name : List ℕ) → map.get inodes (key.Inode old.id name) ≡ None) → at ≢ root_key → FlagsStay inodes (map.remove inodes at) }
+    ensures file { (names : List (List ℕ)) (tables : Tables) (next : ℕ) → IsTree tables.inodes next → (dir : List (List ℕ)) (parent : Inode) (owner last : List ℕ) (client : ClientNo) → spelled tables.inodes dir ≡ Some parent → parent.kind ≡ Dir → FirstMissing tables.inodes parent.id (names ++ last ∷ []) →
+        FlagsStay tables.inodes (written tables (new_file_rows parent.id.0 next owner names last client)).inodes }
+    ensures none { (old new : Inodes) → IsUnflagged old → FlagsStay old new → IsUnflagged new }
 {}
 
 /// Where the quota rows of the directories along a path are recounted by what comes and goes there, the rows stand

@@ -41,6 +41,7 @@ turns_run script turns notes lines tree small made book told legal names reads s
       told = single_told script turns (space (users_of script) (turns_book 0 turns)) is (subst (Legal (users_of script)) book legal) refl;
       kept = single_kept script turns is;
       names = subst IsNamespace same names;
+      alone = (turns, refl);
       reads = subst (Each (TellsReads (users_of script))) book reads;
       plain = plain;
     } in

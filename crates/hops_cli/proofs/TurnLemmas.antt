@@ -22,6 +22,7 @@ use Rattle.db_state.specs.Spelled.{AreGiven}
 use Rattle.db_state.specs.Stands.{Stands}
 use Rattle.db_state.specs.Counts.{Counts}
 use Rattle.db_state.specs.Consistent.{IsConsistent}
+use Rattle.db_state.specs.FlagLaws.{unflagged_stays}
 use Rattle.db_state.specs.Written.{tables_of, state_of, written, next_after, committed}
 use Rattle.db_state.specs.declared.view.View.{View}
 use Rattle.db_state.specs.declared.writes.Row.{Row}
@@ -94,7 +95,7 @@ module _ (state : State) (user : List ℕ) (asked : Call) (number reads : ℕ) (
         names = subst IsNamespace (sym new_space) (keeps before (client 0) user asked kept.names names);
         stands = subst (Stands tables.inodes tables.quotas []) (sym new_space) answer.rows.stands;
         counts = subst (Counts tables.inodes tables.quotas) (sym new_space) answer.rows.counts;
-        flags = answer.flags kept.flags;
+        flags = unflagged_stays state.inodes tables.inodes kept.flags answer.flags;
       } in
       subst (λ (ns : List Note). IsConsistent (state_of tables state.users ns (next_after state.next writes))) (sym long)
       (subst (λ (n : ℕ). IsConsistent (state_of tables state.users after (next_after n writes))) next there)

@@ -15,6 +15,7 @@ use Rattle.commit_log.specs.Along.{Each}
 use Rattle.commit_log.specs.Legal.{space}
 use Rattle.commit_log.specs.Told.{Told}
 use Rattle.commit_log.specs.Kept.{KeptWithoutLocks}
+use Rattle.commit_log.specs.OneClient.{Turn, turns_book}
 use Rattle.commit_log.specs.Samples.{client}
 use Rattle.report_text.specs.Report.{report_text}
 
@@ -49,12 +50,14 @@ TellsReads users before (Cut op path gone) = ⊤
 TellsReads users before (Met s cause) = ⊤
 TellsReads users before (Gone node ended) = ⊤
 
--- the book, the answers and the tree of a script's run: they tell one legal history of it, which leads to a namespace,
--- each answer tells the rows read for its path, and the replies and that namespace are those of the plain calls
+-- the book, the answers and the tree of a script's run: they tell one legal history of it, which leads to a namespace; the
+-- book has the openings and the answers of the calls in turn, and nothing else; each answer tells the rows read for its
+-- path; and the replies and that namespace are those of the plain calls
 pub record IsRun (script : Script) (notes : List Note) (lines : List AnswerLine) (tree : Namespace) : Type 0 where
   pub told : Told script notes lines tree
   pub kept : KeptWithoutLocks script notes lines
   pub names : IsNamespace tree
+  pub alone : (turns : List Turn) × (notes ≡ turns_book 0 turns)
   pub reads : Each (TellsReads (users_of script)) notes
   pub plain : IsPlainRun script.clients lines tree
 

@@ -56,7 +56,7 @@ pub fn run(alloc: Global, script: &Script) -> Result<Ran, NoMemory>
 // What a database is to know of the script.
 fn settings_of(alloc: Global, script: &Script) -> Result<Settings, NoMemory>
     requires { IsBuilt script.now }
-    ensures { IfOk result (λ settings. settings.users ≡ users_of script.now) }
+    ensures { IfOk result (λ settings. settings ≡ record { namenodes = script.now.namenodes; users = users_of script.now; grace = script.now.grace; stops = script.now.stops }) }
 {
     let mut users = UserList::new(alloc);
     users.reserve(script.clients().len() as u64)?;

@@ -6,10 +6,11 @@ use Rattle.hops_base.specs.declared.ids.ClientNo.{ClientNo}
 use Rattle.hops_base.specs.declared.key.Key.{Key}
 use Rattle.name_space.specs.declared.call.Call.{Call}
 use Rattle.name_space.specs.declared.reply.Reply.{Reply}
-use Rattle.name_space.specs.declared.reply.Reply.TheVariants.{Truth}
+use Rattle.name_space.specs.declared.reply.Reply.TheVariants.{Truth, Refused}
 use Rattle.name_space.specs.Namespace.{Namespace, Path, IsNamespace, entry_at, exists, is_within, missing, with_entry, bytes_of}
 use Rattle.name_space.specs.NamespaceLaws.{Rises, Rises-with_entry, entry_at-with_entry, dir-exists}
 use Rattle.name_space.specs.Plain.{Answered, granted}
+use Rattle.name_space.specs.Call.{changes}
 use Rattle.name_space.specs.Calls.{plain, as_read}
 use Rattle.commit_log.specs.declared.note.Note.{Note}
 use Rattle.commit_log.specs.declared.note.Note.TheVariants.{Did}
@@ -20,7 +21,7 @@ use Rattle.db_state.specs.State.{Tables}
 use Rattle.db_state.specs.Spelled.{row_of, IsTree}
 use Rattle.db_state.specs.Stands.{entry_of, Stands}
 use Rattle.db_state.specs.Counts.{Counts}
-use Rattle.db_state.specs.ChangeLaws.{tree_changed, stands_changed, given_changed, unflagged_changed}
+use Rattle.db_state.specs.ChangeLaws.{tree_changed, stands_changed, given_changed, flags_changed}
 use Rattle.db_state.specs.CountLaws.{counts_changed_plain}
 use Rattle.db_state.specs.RemoveLaws.{not_root_key}
 use Rattle.db_state.specs.declared.view.View.{View}
@@ -95,12 +96,14 @@ module _ (tables : Tables) (view : View) (space : Namespace) (tree : IsTree tabl
       omega arith
 
   -- an answer that writes the new row
-  pub changed : (client : ClientNo) (user : List ℕ) (asked : Call) (reply : Reply) (writes : List (Key × Option Row)) → ((was is : Namespace) → move_of was is asked ≡ None)
+  pub changed : (client : ClientNo) (user : List ℕ) (asked : Call) (reply : Reply) (writes : List (Key × Option Row)) → ((was is : Namespace) → move_of was is asked ≡ None) → changes asked ≡ true
       → plain space client user asked ≡ granted later → as_read reply ≡ Truth true → writes ≡ (at, Some (row.Inode new)) ∷ [] → IsAnswer tables space client user asked view reply writes
-  changed client user asked reply writes still answer reads is = subst (IsAnswer tables space client user asked view reply) (sym is) (record {
+  changed client user asked reply writes still acts answer reads is = subst (IsAnswer tables space client user asked view reply) (sym is) (record {
     told = reads ∙ sym (ap (λ (a : Answered). a.reply) answer);
+    quiet = λ exception refused. (let bad : Truth true ≡ Refused exception = sym reads ∙ ap as_read refused in cc);
+    looks = λ same. (let bad : true ≡ false = sym acts ∙ same in cc);
     rows = subst (IsOf after (max view.next.0 (new.id.0 + 1))) (sym (ap (λ (a : Answered). a.space) answer)) (subst (λ (n : ℕ). IsOf after n later) (sym next_then) rows_then);
-    flags = λ unflagged. unflagged_changed tables.inodes view.next.0 tree at old new there ids unflagged flags;
+    flags = λ k some. flags_changed tables.inodes view.next.0 tree at old new there ids flags k;
     few = let past = next_then in omega arith;
     ids = subst (AreIds tables view.next.0 after (max view.next.0 (new.id.0 + 1)) space client asked) (sym answer) (λ numbering s number times answered given.
         subst (λ (n : ℕ). IsNumberedBy (numbering_after numbering space later (Did s client number asked times answered)) after.inodes n later) (sym next_then) (ids_then numbering (Did s client number asked times answered) (still space later) given));

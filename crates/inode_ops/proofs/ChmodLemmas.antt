@@ -89,7 +89,7 @@ module _ (tables : Tables) (bound : ℕ) (space : Namespace) (client : ClientNo)
       let same : set.walk.down.at.there.row ≡ set.walk.down.bottom.1 = set.walk.down.at.there.whole lock in
       changed tables view space set.tree set.names set.stands set.counts set.walk.down.bottom.0 set.walk.down.at.there.row (with_mode bits set.walk.down.at.there.row) set.walk.down.at.there.there place.path (own_row tables view.next.0 space locked view.quotas.items place set whole) (λ e. some (ap (λ (p : Path). length p) e))
       refl refl refl refl (same_bytes set.walk.down.at.there.row.kind set.walk.down.at.there.row (quota_of tables.quotas set.walk.down.at.there.row.id) bits)
-      client user (call.Chmod place.path bits) reply writes (λ was is. refl)
+      client user (call.Chmod place.path bits) reply writes (λ was is. refl) refl
       (chmod_there space place.path bits (entry_of tables.quotas set.walk.down.at.there.row) some (whole_entry tables bound space client user view place locked set whole)
       ∙ ap (λ (e : Entry). granted (with_entry space place.path e)) (entry_mode set.walk.down.at.there.row.kind set.walk.down.at.there.row (quota_of tables.quotas set.walk.down.at.there.row.id) bits))
       (ap as_read granted_is)

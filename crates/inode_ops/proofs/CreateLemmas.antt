@@ -38,20 +38,21 @@ use Rattle.db_state.specs.declared.view.View.{View}
 use Rattle.db_state.specs.declared.writes.Row.{Row}
 use Rattle.db_state.specs.declared.writes.Row.TheVariants as row
 use Rattle.db_state.specs.NewFile.{new_file_rows}
-use Rattle.db_state.specs.QuotaWrites.{quota_writes, lowered}
+use Rattle.db_state.specs.FileLaws.{paths_below-length}
+use Rattle.db_state.specs.QuotaWrites.{quota_writes, raised, lowered}
 use Rattle.inode_ops.specs.CreateSteps.{overwritten, IsOverwritten, IsFiledUnless, CreateOf, AnswersCreate}
-use Rattle.inode_ops.proofs.FileRowLemmas.{row_new}
-use Rattle.inode_ops.specs.LowerSteps.{AreQuotasFound, AreRowsOf}
 use Rattle.inode_ops.specs.Outcomes.{IsViewOf}
-use Rattle.inode_ops.specs.Steps.{AreRaised, HasNoQuotas, first_full, missing_names}
+use Rattle.inode_ops.specs.QuotaSteps.{first_full, AreQuotasFound}
+use Rattle.inode_ops.specs.Steps.{missing_names}
 use Rattle.inode_ops.specs.Table.{IsAnswer, IsCallsTable}
+use Rattle.inode_ops.proofs.CountLemmas.{HasNoQuotas, all_found}
 use Rattle.inode_ops.proofs.CreateRules.{create-dir, create-file, create-over, create-under_file, create-below}
+use Rattle.inode_ops.proofs.FileRowLemmas.{file_new, row_new}
 use Rattle.inode_ops.proofs.FiledLemmas.{filed_answer}
 use Rattle.inode_ops.proofs.OverwriteLemmas.{overwritten_answer}
 use Rattle.inode_ops.proofs.OutcomeLemmas.{set_of, locked_in, locked_more, file_of, dir_of, row_kind, whole_entry, partial_entry, kept, view_has}
 use Rattle.inode_ops.proofs.PlaceLemmas.{IsSet, some_deepest, path_is, last_is, deepest_is, rest_is, whole_rest, partial_rest, entry_bottom, missing_entry, missing_is, over_is}
 use Rattle.inode_ops.proofs.QuotaLemmas.{LocksQuota, locks_each}
-use Rattle.inode_ops.proofs.TableLemmas.{long_below}
 
 -- ---- what is locked
 
@@ -142,7 +143,7 @@ module _ (tables : Tables) (bound : ℕ) (space : Namespace) (client : ClientNo)
       let is_dir : is_file (Some (entry_of tables.quotas row)) ≡ false = dir_of row.kind row (quota_of tables.quotas row.id) (kind_is Dir dir) in
       let gone : entry_at space (reverse set.walk.down.dir ++ set.walk.down.rest) ≡ None = ap (entry_at space) path ∙ partial_entry tables bound space client user view place locked set part in
       let all = missing_is tables view.next.0 space locked view.quotas.items place set in
-      let count : length (paths_below (reverse set.walk.down.dir) set.walk.down.rest) ≡ length (missing_names place) = long_below (reverse set.walk.down.dir) set.walk.down.rest ∙ ap (λ (names : List (List ℕ)). length names) (sym (rest_is tables view.next.0 space locked view.quotas.items place set)) in
+      let count : length (paths_below (reverse set.walk.down.dir) set.walk.down.rest) ≡ length (missing_names place) = paths_below-length set.walk.down.rest (reverse set.walk.down.dir) ∙ ap (λ (names : List (List ℕ)). length names) (sym (rest_is tables view.next.0 space locked view.quotas.items place set)) in
       ap (λ (p : Path). create space client user p overwrite) (sym path)
       ∙ create-below space set.names client user overwrite (reverse set.walk.down.dir) set.walk.down.rest (entry_of tables.quotas row) (entry_bottom tables view.next.0 space locked view.quotas.items place set) is_dir (missing_entry tables view.next.0 space locked view.quotas.items place set) gone
       ∙ (λ i. unless (over_quota space (count i) 0 (above (path i))) space (granted (with_entry (with_dirs space user (sym all i)) (path i) (new_file client user))))
@@ -158,22 +159,21 @@ module _ (tables : Tables) (bound : ℕ) (space : Namespace) (client : ClientNo)
   answer_below part dir locks reply writes None full is =
       let rest = rest_is tables view.next.0 space locked view.quotas.items place set in
       let split : set.walk.down.rest ≡ is.1 ++ is.2 ∷ [] = sym rest ∙ is.3 in
-      let more : List (Key × Option Row) = is.4.0 in
-      let raised : AreRaised (set.walk.first ∷ set.walk.rows) view.quotas.items (length set.walk.down.rest) more =
-      subst (λ (rs : List (Key × Inode)). AreRaised rs view.quotas.items (length set.walk.down.rest) more) set.walk.items (subst (λ (names : List (List ℕ)). AreRaised place.found.items view.quotas.items (length names) more) rest is.4.2) in
-      let items : writes.items ≡ new_file_rows set.walk.down.at.there.row.id.0 view.next.0 user is.1 is.2 client ++ more =
-      is.4.1 ∙ ap (λ (i : InodeId). new_file_rows i.0 view.next.0 user is.1 is.2 client ++ more) (sym set.walk.down.at.there.id) in
+      let chosen : List (InodeId × QuotaRow) = is.4.0 in
+      let found : AreQuotasFound (set.walk.first ∷ set.walk.rows) view.quotas.items [] chosen =
+      subst (λ (rs : List (Key × Inode)). AreQuotasFound rs view.quotas.items [] chosen) set.walk.items (all_found place.found.items view.quotas.items (new_file_rows set.walk.down.bottom.1.id.0 view.next.0 user is.1 is.2 client) chosen (file_new is.1 set.walk.down.bottom.1.id.0 view.next.0 user is.2 client) is.4.2) in
+      let items : writes.items ≡ new_file_rows set.walk.down.at.there.row.id.0 view.next.0 user is.1 is.2 client ++ quota_writes (raised (length set.walk.down.rest) 0) chosen =
+      is.4.1 ∙ (λ i. new_file_rows (sym set.walk.down.at.there.id i).0 view.next.0 user is.1 is.2 client ++ quota_writes (raised (length (rest i)) 0) chosen) in
       let long : length set.walk.down.rest ≡ length is.1 + 1 = ap (λ (p : List (List ℕ)). length p) split ∙ length-append is.1 (is.2 ∷ []) in
-      filed_answer tables space locked view.quotas.items place view set (subst (AllByRecursion (LocksQuota locked)) set.walk.items locks) (kind_is Dir dir) client user is.1 is.2 split more raised
-      (call.Create place.path overwrite) reply writes.items (λ old new. refl) (let few = set.walk.down.few in omega arith)
+      filed_answer tables space locked view.quotas.items place view set (subst (AllByRecursion (LocksQuota locked)) set.walk.items locks) (kind_is Dir dir) client user is.1 is.2 split chosen found
+      (call.Create place.path overwrite) reply writes.items (λ old new. refl) refl (let few = set.walk.down.few in omega arith)
       (plain_below part dir locks ∙ ap (λ (o : Option Exception). unless o space (granted (with_entry (with_dirs space user (missing space place.path)) place.path (new_file client user)))) full) (ap as_read is.0) items
 
-  -- all quota rows are lowered, since none was written before
-  all_lowered : (chosen : List (InodeId × QuotaRow)) (made : Option Row) → AreQuotasFound place.found.items view.quotas.items ((set.walk.down.bottom.0, made) ∷ []) chosen → AreRowsOf place.found.items view.quotas.items chosen
-  all_lowered chosen made found =
+  -- the row of the file is no quota row
+  file_apart : (made : Option Row) → HasNoQuotas ((set.walk.down.bottom.0, made) ∷ [])
+  file_apart made =
       let at = set.tree.keys set.walk.down.bottom.0 set.walk.down.at.there.row set.walk.down.at.there.there in
-      let none : HasNoQuotas ((set.walk.down.bottom.0, made) ∷ []) = row_new at.0 at.1 set.walk.down.bottom.0 made ((set.walk.down.bottom.0, made) ∷ []) at.2 refl in
-      record { each = found.each; all = λ id quota has is. found.all id quota has is (none id) }
+      row_new at.0 at.1 set.walk.down.bottom.0 made ((set.walk.down.bottom.0, made) ∷ []) at.2 refl
 
   -- what it answers where it overwrites a file
   answer_over : is_whole place ≡ true → set.walk.down.bottom.1.kind ≡ File → AllByRecursion (LocksQuota locked) place.found.items → is_locked locked set.walk.down.bottom.0 ≡ true → (reply : Reply) (writes : Roomy (Key × Option Row))
@@ -181,11 +181,12 @@ module _ (tables : Tables) (bound : ℕ) (space : Namespace) (client : ClientNo)
   answer_over whole file locks lock reply writes is =
       let same : set.walk.down.at.there.row ≡ set.walk.down.bottom.1 = set.walk.down.at.there.whole lock in
       let chosen : List (InodeId × QuotaRow) = is.1.0 in
+      let made : Option Row = Some (row.Inode (overwritten client user set.walk.down.bottom.1)) in
       let items : writes.items ≡ (set.walk.down.bottom.0, Some (row.Inode (overwritten client user set.walk.down.at.there.row))) ∷ quota_writes (lowered 0 set.walk.down.at.there.row.len) chosen =
       is.1.1 ∙ ap (λ (r : Inode). (set.walk.down.bottom.0, Some (row.Inode (overwritten client user r))) ∷ quota_writes (lowered 0 r.len) chosen) (sym same) in
       overwritten_answer tables space locked view.quotas.items place view set (subst (AllByRecursion (LocksQuota locked)) set.walk.items locks) whole (kind_is File file) client user chosen
-      (subst (λ (rs : List (Key × Inode)). AreRowsOf rs view.quotas.items chosen) set.walk.items (all_lowered chosen (Some (row.Inode (overwritten client user set.walk.down.bottom.1))) is.1.2))
-      (call.Create place.path true) reply writes.items (λ before then. refl) (plain_over whole file) (ap as_read is.0) items
+      (subst (λ (rs : List (Key × Inode)). AreQuotasFound rs view.quotas.items [] chosen) set.walk.items (all_found place.found.items view.quotas.items ((set.walk.down.bottom.0, made) ∷ []) chosen (file_apart made) is.1.2))
+      (call.Create place.path true) reply writes.items (λ before then. refl) refl (plain_over whole file) (ap as_read is.0) items
 
 module _ (tables : Tables) (bound : ℕ) (space : Namespace) (client : ClientNo) (user : List ℕ) (view : View) (place : Place) (locked : List (Key × Mode)) (set : IsSet tables view.next.0 space locked view.quotas.items place)
     (locks : AllByRecursion (LocksQuota locked) place.found.items) (lock : is_locked locked set.walk.down.bottom.0 ≡ true) where

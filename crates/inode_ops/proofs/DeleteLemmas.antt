@@ -34,7 +34,7 @@ use Rattle.inode_table.specs.declared.inode.Kind.TheVariants.{Dir, File}
 use Rattle.quota_table.specs.declared.quota.QuotaRow.{QuotaRow}
 use Rattle.db_state.specs.State.{Tables}
 use Rattle.db_state.specs.Stands.{entry_of, entry_of_kind, quota_of}
-use Rattle.db_state.specs.Consistent.{IsUnflagged}
+use Rattle.db_state.specs.Consistent.{FlagsStay}
 use Rattle.db_state.specs.Current.{IsCurrentPlace, KnowsChild, is_locked}
 use Rattle.db_state.specs.Plan.{is_whole, plan, low, parent, quotas, writer_lease, where_so, path_keys, last_found}
 use Rattle.db_state.specs.Written.{written, next_after}
@@ -48,13 +48,13 @@ use Rattle.db_state.specs.declared.view.View.{View}
 use Rattle.db_state.specs.declared.writes.Row.{Row}
 use Rattle.db_state.specs.FileLaws.{written-append, next_after-append}
 use Rattle.inode_ops.specs.Outcomes.{IsViewOf}
-use Rattle.inode_ops.specs.LowerSteps.{AreQuotasFound, GoesOnLowered}
+use Rattle.inode_ops.specs.QuotaSteps.{AreQuotasFound, GoesOnCounted}
 use Rattle.inode_table.specs.Inode.{counted_bytes}
 use Rattle.inode_ops.specs.DeleteSteps.{removals, RemovesLast, DeleteOf, AnswersDelete}
 use Rattle.inode_ops.specs.Table.{IsBefore, IsOf, IsAnswer, AreIds, IsNumberedBy, IsCallsTable}
 use Rattle.inode_ops.proofs.QuotaLemmas.{LocksQuota, locks_each}
 use Rattle.inode_ops.proofs.PlaceLemmas.{IsSet, last_is}
-use Rattle.inode_ops.proofs.RemovedLemmas.{rows_removed, flags_removed, ids_removed}
+use Rattle.inode_ops.proofs.RemovedLemmas.{rows_removed, flags_then, ids_removed}
 use Rattle.inode_ops.proofs.DeletePlaceLemmas.{own_there, own_row, knows_children, own_left, are_left, along_left}
 use Rattle.inode_ops.proofs.OutcomeLemmas.{set_of, locked_in, locked_more, among_third, partial_entry, kept, view_has}
 
@@ -169,14 +169,16 @@ module _ (tables : Tables) (bound : ℕ) (space : Namespace) (client : ClientNo)
       let next_is : next_after view.next.0 (removals set.walk.down.bottom ++ lows) ≡ view.next.0 =
       next_after-append (removals set.walk.down.bottom) lows view.next.0 ∙ ap (λ (n : ℕ). next_after n lows) (next_removals view.next.0 set.walk.down.bottom) ∙ next_written (lowered 1 (bytes_of (entry_of tables.quotas old))) rows view.next.0 in
       let then = rows_removed tables view.next.0 set.tree space set.names set.stands set.counts set.walk.down.bottom.0 old there place.path (not_root place.path root) here leaf (written tables (removals set.walk.down.bottom)) left rows known along in
-      let flags = flags_removed tables view.next.0 set.tree space set.names set.stands set.counts set.walk.down.bottom.0 old there place.path (not_root place.path root) here leaf (written tables (removals set.walk.down.bottom)) left rows known along in
+      let flags = flags_then tables view.next.0 set.tree space set.names set.stands set.counts set.walk.down.bottom.0 old there place.path (not_root place.path root) here leaf (written tables (removals set.walk.down.bottom)) left rows known along in
       let ids = ids_removed tables view.next.0 set.tree space set.names set.stands set.counts set.walk.down.bottom.0 old there place.path (not_root place.path root) here leaf (written tables (removals set.walk.down.bottom)) left rows known along in
       subst (IsAnswer tables space client user (call.Delete place.path false) view reply) (sym is) (record {
         told = ap as_read is_true ∙ sym (ap (λ (a : Rattle.name_space.specs.Plain.Answered). a.reply) answer);
+        quiet = λ exception refused. (let bad : Truth true ≡ Refused exception = sym is_true ∙ refused in cc);
+        looks = λ same. (let bad : true ≡ false = same in cc);
         rows = subst (IsOf (written tables (removals set.walk.down.bottom ++ lows)) (next_after view.next.0 (removals set.walk.down.bottom ++ lows))) (sym (ap (λ (a : Rattle.name_space.specs.Plain.Answered). a.space) answer))
             (subst (λ (n : ℕ). IsOf (written tables (removals set.walk.down.bottom ++ lows)) n (without space place.path)) (sym next_is)
             (subst (λ (t : Tables). IsOf t view.next.0 (without space place.path)) (sym tables_are) then));
-        flags = λ unflagged. subst (λ (t : Tables). IsUnflagged t.inodes) (sym tables_are) (flags unflagged);
+        flags = subst (λ (t : Tables). FlagsStay tables.inodes t.inodes) (sym tables_are) flags;
         few = omega arith;
         ids = subst (AreIds tables view.next.0 (written tables (removals set.walk.down.bottom ++ lows)) (next_after view.next.0 (removals set.walk.down.bottom ++ lows)) space client (call.Delete place.path false)) (sym answer)
             (λ numbering s number times answered given.
@@ -195,8 +197,8 @@ module _ (tables : Tables) (bound : ℕ) (space : Namespace) (client : ClientNo)
   answer_leaf : is_whole place ≡ true → is_root place.path ≡ false → place.has_child ≡ false → (reply : Reply) (writes : List (Key × Option Row)) → reply ≡ Truth true → RemovesLast place view.quotas.items writes
       → IsAnswer tables space client user (call.Delete place.path false) view reply writes
   answer_leaf whole root none reply writes is_true goes =
-      let last : GoesOnLowered (removals set.walk.down.bottom) (take (length place.found.items - 1) place.found.items) view.quotas.items 1 (counted_bytes set.walk.down.bottom.1.kind set.walk.down.bottom.1) writes =
-      subst (λ (o : Option (Key × Inode)). IfSome o (λ (x : Key × Inode). GoesOnLowered (removals x) (take (length place.found.items - 1) place.found.items) view.quotas.items 1 (counted_bytes x.1.kind x.1) writes)) (last_is tables view.next.0 space locked view.quotas.items place set) goes in
+      let last : GoesOnCounted (removals set.walk.down.bottom) (take (length place.found.items - 1) place.found.items) view.quotas.items (lowered 1 (counted_bytes set.walk.down.bottom.1.kind set.walk.down.bottom.1)) writes =
+      subst (λ (o : Option (Key × Inode)). IfSome o (λ (x : Key × Inode). GoesOnCounted (removals x) (take (length place.found.items - 1) place.found.items) view.quotas.items (lowered 1 (counted_bytes x.1.kind x.1)) writes)) (last_is tables view.next.0 space locked view.quotas.items place set) goes in
       let e : length (set.walk.first ∷ set.walk.rows) - 1 ≡ length set.walk.rows = omega arith in
       let above : take (length place.found.items - 1) place.found.items ≡ take (length set.walk.rows) (set.walk.first ∷ set.walk.rows) =
       ap (λ (rs : List (Key × Inode)). take (length rs - 1) rs) set.walk.items ∙ ap (λ (n : ℕ). take n (set.walk.first ∷ set.walk.rows)) e in

@@ -1,6 +1,6 @@
 -- The last row found for a path, which is to go, and the rows above it.
 use Rattle.std.proofs.Common.{◌≡◌, ◌≢◌, ℕ, ◌+◌, ◌-◌, ◌<◌, Bool, true, false, ◌||◌, ◌==◌, nat_lt, List, [], ◌∷◌, ◌++◌, length, length-append, take, reverse, slice_get, Option, Some, None, IfSome, arith, refl, sym, ap, subst, ◌∙◌, inl, inr, append-nil, eqb-true}
-use Rattle.std.proofs.lemmas.Bool.{true≢false, or_left, or_cases}
+use Rattle.std.proofs.lemmas.Bool.{true≢false, false_from_ne_true, or_left, or_cases}
 use Rattle.std.proofs.lemmas.List.{reverse-reverse, length-reverse}
 use Rattle.std.proofs.lemmas.List.Folds.{list_any-append}
 use Rattle.std.specs.FinMap as map
@@ -13,7 +13,7 @@ use Rattle.hops_base.specs.declared.key.Key.{Key}
 use Rattle.hops_base.specs.declared.key.Key.TheVariants as key
 use Rattle.hops_base.specs.Key.{same_key, number_of}
 use Rattle.hops_base.specs.Tells.{keys_tell}
-use Rattle.name_space.specs.Namespace.{Namespace, Path, is_within, children}
+use Rattle.name_space.specs.Namespace.{Namespace, Path, children}
 use Rattle.inode_table.specs.declared.inode.Inode.{Inode}
 use Rattle.quota_table.specs.declared.quota.QuotaRow.{QuotaRow}
 use Rattle.db_state.specs.State.{Tables}
@@ -24,19 +24,19 @@ use Rattle.db_state.specs.Plan.{where_so, last_found, is_whole}
 use Rattle.db_state.specs.PathLaws.{same_id, injective}
 use Rattle.db_state.specs.UnderLaws.{children_counted}
 use Rattle.db_state.specs.Recounted.{is_along}
-use Rattle.db_state.specs.CountLaws.{is_along-within}
 use Rattle.db_state.specs.QuotaWriteLaws.{is_written, AreOf}
 use Rattle.db_state.specs.Written.{written}
 use Rattle.db_state.specs.declared.view.Place.{Place}
 use Rattle.db_state.specs.declared.writes.Row.{Row}
-use Rattle.inode_ops.specs.Steps.{quota_in, has_id}
-use Rattle.inode_ops.specs.LowerSteps.{IsQuotaFound, AreQuotasFound, GoesOnLowered}
+use Rattle.db_state.specs.QuotaWrites.{lowered}
+use Rattle.inode_ops.specs.QuotaSteps.{quota_in, has_id, AreQuotasFound, GoesOnCounted}
 use Rattle.inode_table.specs.Inode.{counted_bytes}
 use Rattle.inode_ops.specs.DeleteSteps.{removals, RemovesLast}
 use Rattle.inode_ops.proofs.WalkLemmas.{IsAt, at_next}
 use Rattle.inode_ops.proofs.QuotaLemmas.{LocksQuota, seen_of}
 use Rattle.inode_ops.proofs.PlaceLemmas.{IsSet, path_is, last_is, whole_rest}
-use Rattle.inode_ops.proofs.CountLemmas.{has_within, not_within}
+use Rattle.inode_ops.proofs.AlongLemmas.{quota_along}
+use Rattle.inode_ops.proofs.CountLemmas.{written_found}
 use Rattle.inode_ops.proofs.RemovedLemmas.{IsLeft, left_of}
 
 -- ---- of the place alone
@@ -84,15 +84,15 @@ marked at id has_quota = (at, None) ∷ where_so has_quota ((key.Quota id, None)
 
 -- what a removal of the last row found writes
 pub removes : (place : Place) (seen : List (InodeId × QuotaRow)) (above : List (Key × Inode)) (last : Key × Inode) → place.found.items ≡ above ++ last ∷ [] → (before writes : List (Key × Option Row)) → before ≡ removals last
-    → (bytes : ℕ) → bytes ≡ counted_bytes last.1.kind last.1 → GoesOnLowered before above seen 1 bytes writes → RemovesLast place seen writes
+    → (bytes : ℕ) → bytes ≡ counted_bytes last.1.kind last.1 → GoesOnCounted before above seen (lowered 1 bytes) writes → RemovesLast place seen writes
 removes place seen above last is before writes removed bytes counts goes =
     let long : length (above ++ last ∷ []) ≡ length above + 1 = length-append above (last ∷ []) in
     let e : length place.found.items - 1 ≡ length above = (let same = ap length is in omega arith) in
     let found : last_found place ≡ Some last = ap (slice_get place.found.items) e ∙ ap (λ (rs : List (Key × Inode)). slice_get rs (length above)) is ∙ got_last above last in
     let rest : take (length place.found.items - 1) place.found.items ≡ above = ap (λ (n : ℕ). take n place.found.items) e ∙ ap (take (length above)) is ∙ taken_above above last in
-    subst (λ (o : Option (Key × Inode)). IfSome o (λ (x : Key × Inode). GoesOnLowered (removals x) (take (length place.found.items - 1) place.found.items) seen 1 (counted_bytes x.1.kind x.1) writes)) (sym found)
-    (subst (λ (rs : List (Key × Inode)). GoesOnLowered (removals last) rs seen 1 (counted_bytes last.1.kind last.1) writes) (sym rest)
-    (subst (λ (n : ℕ). GoesOnLowered (removals last) above seen 1 n writes) counts (subst (λ (ws : List (Key × Option Row)). GoesOnLowered ws above seen 1 bytes writes) removed goes)))
+    subst (λ (o : Option (Key × Inode)). IfSome o (λ (x : Key × Inode). GoesOnCounted (removals x) (take (length place.found.items - 1) place.found.items) seen (lowered 1 (counted_bytes x.1.kind x.1)) writes)) (sym found)
+    (subst (λ (rs : List (Key × Inode)). GoesOnCounted (removals last) rs seen (lowered 1 (counted_bytes last.1.kind last.1)) writes) (sym rest)
+    (subst (λ (n : ℕ). GoesOnCounted (removals last) above seen (lowered 1 n) writes) counts (subst (λ (ws : List (Key × Option Row)). GoesOnCounted ws above seen (lowered 1 bytes) writes) removed goes)))
 
 -- the first write is that of the row's key, and is no quota row's
 pub first_removed : (reserved pushed : Roomy (Key × Option Row)) (k : Key) (last : Key × Inode) → reserved.items ≡ [] → k ≡ last.0 → pushed ≡ record reserved { items = reserved.items ++ (k, None) ∷ [] } → pushed.items ≡ (last.0, None) ∷ []
@@ -150,14 +150,6 @@ higher inodes locked (name ∷ names) up first (next ∷ rows) missing id at lea
 all_map : {A : Type 0} {P Q : A → Type 0} → ((x : A) → P x → Q x) → (xs : List A) → AllByRecursion P xs → AllByRecursion Q xs
 all_map f [] all = tt
 all_map f (x ∷ xs) all = (f x all.0, all_map f xs all.1)
-
--- a quota row that is written was found
-written_found : (rows : List (Key × Inode)) (seen quotas : List (InodeId × QuotaRow)) (id : InodeId) → AllByRecursion (IsQuotaFound rows seen) quotas → is_written quotas id ≡ true → has_id rows id ≡ true
-written_found rows seen [] id each wrote = absurd (true≢false (sym wrote))
-written_found rows seen (q ∷ quotas) id each wrote = elim (or_cases (q.0.0 == id.0) (is_written quotas id) wrote) [
-  | inl here ↦ ap (has_id rows) (sym (same_id q.0 id (eqb-true q.0.0 id.0 here))) ∙ each.0.0
-  | inr further ↦ written_found rows seen quotas id each.1 further
-]
 
 module _ (tables : Tables) (next : ℕ) (space : Namespace) (locked : List (Key × Mode)) (seen : List (InodeId × QuotaRow)) (place : Place) (set : IsSet tables next space locked seen place)
     (lock : is_locked locked set.walk.down.bottom.0 ≡ true) (whole : is_whole place ≡ true) where
@@ -246,23 +238,8 @@ module _ (tables : Tables) (next : ℕ) (space : Namespace) (locked : List (Key 
     along_left id quota left =
         let differ : id ≢ set.walk.down.bottom.1.id = (λ same. let bad : None ≡ Some quota = sym own_left.gone ∙ ap (quota_of (written tables (removals set.walk.down.bottom)).quotas) (sym same) ∙ left in cc) in
         let is : quota_of tables.quotas id ≡ Some quota = sym (own_left.others id differ) ∙ left in
-        let of = set.stands.rows id quota is in
-        let way = set.tree.spelled of.at of.row of.there in
-        let top : row_of tables.inodes (reverse way.0) ≡ Some of.row = ap (spelled tables.inodes) (reverse-reverse way.0) ∙ way.1 in
-        by_id differ is (reverse way.0) of.row of.is top (has_id (set.walk.first ∷ set.walk.rows) id) refl
+        by_id differ is (has_id (set.walk.first ∷ set.walk.rows) id) refl ∙ sym (quota_along tables next space locked seen place set id quota is)
       where
-        along : (top : Path) (row : Inode) → row.id ≡ id → row_of tables.inodes top ≡ Some row → is_along tables.inodes place.path id ≡ is_within top place.path
-        along top row same there = ap (is_along tables.inodes place.path) (sym same) ∙ is_along-within tables.inodes next set.tree top row there place.path
-
-        by_id : id ≢ set.walk.down.bottom.1.id → quota_of tables.quotas id ≡ Some quota → (top : Path) (row : Inode) → row.id ≡ id → row_of tables.inodes top ≡ Some row
-            → (b : Bool) → has_id (set.walk.first ∷ set.walk.rows) id ≡ b → is_written quotas id ≡ is_along tables.inodes place.path id
-        by_id differ is top row same there true has =
-            are.all id quota (has_above id differ has) (read_of id has ∙ is) (not_removed id differ)
-            ∙ sym (along top row same there ∙ has_within tables next space locked seen place set top row there (ap (has_id (set.walk.first ∷ set.walk.rows)) same ∙ has))
-        by_id differ is top row same there false has =
-            unwritten (is_written quotas id) refl
-            ∙ sym (along top row same there ∙ not_within tables next space locked seen place set top row there (ap (has_id (set.walk.first ∷ set.walk.rows)) same ∙ has))
-          where
-            unwritten : (b : Bool) → is_written quotas id ≡ b → is_written quotas id ≡ false
-            unwritten false e = e
-            unwritten true e = absurd (true≢false (sym (has_more id (written_found (take (length set.walk.rows) (set.walk.first ∷ set.walk.rows)) seen quotas id are.each e)) ∙ has))
+        by_id : id ≢ set.walk.down.bottom.1.id → quota_of tables.quotas id ≡ Some quota → (b : Bool) → has_id (set.walk.first ∷ set.walk.rows) id ≡ b → is_written quotas id ≡ has_id (set.walk.first ∷ set.walk.rows) id
+        by_id differ is true has = are.all id quota (has_above id differ has) (read_of id has ∙ is) (not_removed id differ) ∙ sym has
+        by_id differ is false has = false_from_ne_true (is_written quotas id) (λ wrote. true≢false (sym (has_more id (written_found (take (length set.walk.rows) (set.walk.first ∷ set.walk.rows)) seen quotas id are.each wrote)) ∙ has)) ∙ sym has

@@ -16,7 +16,7 @@ use Rattle.db_state.specs.Plan.{last_found}
 use Rattle.db_state.specs.PathLaws.{same_id}
 use Rattle.db_state.specs.FileLaws.{new_file_rows-last}
 use Rattle.db_state.specs.declared.writes.Row.TheVariants as row
-use Rattle.inode_ops.specs.Steps.{HasNoQuotas, IsRefused}
+use Rattle.inode_ops.specs.Steps.{IsRefused}
 use Rattle.inode_ops.specs.CreateSteps.{IsFiledUnless}
 use Rattle.hops_base.specs.declared.memory.NoMemory.{NoMemory}
 use Rattle.name_space.specs.declared.reply.Exception.{Exception}
@@ -25,6 +25,7 @@ use Rattle.db_state.specs.declared.outcome.Outcome.{Outcome}
 use Rattle.db_state.specs.declared.writes.Row.{Row}
 use Rattle.db_state.specs.NewDirs.{new_dirs}
 use Rattle.db_state.specs.NewFile.{new_file, new_file_rows, last_dir}
+use Rattle.inode_ops.proofs.CountLemmas.{HasNoQuotas}
 use Rattle.inode_ops.proofs.MadeLemmas.{is_above, fresh_key}
 
 -- the last of new directories has the last of their ids

@@ -1,6 +1,5 @@
 -- A new file against the calls table: its row, those of the directories above it, and the quota rows along its path.
 use Rattle.std.proofs.Common.{◌≡◌, ℕ, ◌+◌, ◌≤◌, Bool, true, false, cond, not, ◌&&◌, ◌||◌, List, [], ◌∷◌, ◌++◌, length, reverse, Option, Some, None, is_some, arith, refl, sym, ap, subst, ◌∙◌, inl, inr, length-append}
-use Rattle.std.specs.FinMap as map
 use Rattle.std.specs.List.{AllByRecursion, sum_by}
 use Rattle.hops_base.specs.Path.{same_path}
 use Rattle.hops_base.specs.Tells.{paths_tell}
@@ -8,10 +7,11 @@ use Rattle.hops_base.specs.declared.ids.ClientNo.{ClientNo}
 use Rattle.hops_base.specs.declared.ids.InodeId.{InodeId}
 use Rattle.hops_base.specs.declared.ids.Mode.{Mode}
 use Rattle.hops_base.specs.declared.key.Key.{Key}
-use Rattle.name_space.specs.Call.{paths_of}
+use Rattle.name_space.specs.Call.{paths_of, changes}
 use Rattle.name_space.specs.declared.call.Call.{Call}
 use Rattle.name_space.specs.declared.entry.Entry.{Entry}
 use Rattle.name_space.specs.declared.reply.Reply.{Reply}
+use Rattle.name_space.specs.declared.reply.Reply.TheVariants.{Truth, Refused}
 use Rattle.name_space.specs.Namespace as spaces
 use Rattle.name_space.specs.Namespace.{Namespace, Path, entry_at, exists, is_within, with_entry, paths_below, missing}
 use Rattle.name_space.specs.NamespaceLaws.{entry_at-with_entry, entry_at-with_dirs, Rises-with_dirs, Rises-with_entry}
@@ -28,9 +28,9 @@ use Rattle.commit_log.specs.NumberLaws.{numbering-missing}
 use Rattle.inode_table.specs.declared.inode.Kind.TheVariants.{Dir}
 use Rattle.quota_table.specs.declared.quota.QuotaRow.{QuotaRow}
 use Rattle.db_state.specs.State.{Tables}
-use Rattle.db_state.specs.Consistent.{IsUnflagged}
+use Rattle.db_state.specs.Consistent.{flag_at}
 use Rattle.db_state.specs.Spelled.{Inodes, IsTree, AreGiven}
-use Rattle.db_state.specs.Stands.{Quotas, quota_of, Stands}
+use Rattle.db_state.specs.Stands.{Stands}
 use Rattle.db_state.specs.Counts.{Counts}
 use Rattle.db_state.specs.Written.{written, next_after}
 use Rattle.db_state.specs.declared.view.Place.{Place}
@@ -39,30 +39,34 @@ use Rattle.db_state.specs.declared.writes.Row.{Row}
 use Rattle.db_state.specs.NewDirs.{FirstMissing}
 use Rattle.db_state.specs.NewFile.{new_file_rows}
 use Rattle.db_state.specs.NumberLaws.{next_with_new}
-use Rattle.db_state.specs.FileLaws.{written-append, next_after-append, quotas_filed, next_filed, unflagged_filed, tree_filed, given_filed, stands_filed}
+use Rattle.db_state.specs.FileLaws.{written-append, next_after-append, paths_below-length, quotas_filed, next_filed, flags_filed, tree_filed, given_filed, stands_filed}
 use Rattle.db_state.specs.GrowthLaws.{names_more, counts_filed}
 use Rattle.db_state.specs.CountLaws.{stands_recounted}
 use Rattle.db_state.specs.Recounted.{IsRecounted}
+use Rattle.db_state.specs.QuotaWrites.{quota_writes, raised}
+use Rattle.db_state.specs.QuotaWriteLaws.{inodes_written, next_written}
 use Rattle.inode_ops.specs.Table.{IsOf, IsNumberedBy, AreIds, IsAnswer}
-use Rattle.inode_ops.specs.Steps.{AreRaised}
-use Rattle.inode_ops.proofs.QuotaLemmas.{LocksQuota, seen_of}
-use Rattle.inode_ops.proofs.RaiseLemmas.{next_raised, inodes_raised, IsRaisedIn, raised_in}
+use Rattle.inode_ops.specs.QuotaSteps.{AreQuotasFound}
+use Rattle.inode_ops.proofs.QuotaLemmas.{LocksQuota}
 use Rattle.inode_ops.proofs.PlaceLemmas.{IsSet, path_is as path_of_place, missing_is, missing_row}
 use Rattle.inode_ops.proofs.AlongLemmas.{recounted_raised}
-use Rattle.inode_ops.proofs.TableLemmas.{long_below, unremoved, all_new}
+use Rattle.inode_ops.proofs.TableLemmas.{unremoved, all_new}
 
 module _ (tables : Tables) (space : Namespace) (locked : List (Key × Mode)) (seen : List (InodeId × QuotaRow)) (place : Place) (view : View) (set : IsSet tables view.next.0 space locked seen place)
     (locks : AllByRecursion (LocksQuota locked) (set.walk.first ∷ set.walk.rows)) (dir : set.walk.down.at.there.row.kind ≡ Dir) (client : ClientNo) (user : List ℕ)
-    (ups : List (List ℕ)) (name : List ℕ) (split : set.walk.down.rest ≡ ups ++ name ∷ []) (more : List (Key × Option Row)) (raises : AreRaised (set.walk.first ∷ set.walk.rows) seen (length set.walk.down.rest) more) where
-  -- the writes of the file and of the directories above it, and the tables with them
+    (ups : List (List ℕ)) (name : List ℕ) (split : set.walk.down.rest ≡ ups ++ name ∷ []) (chosen : List (InodeId × QuotaRow)) (are : AreQuotasFound (set.walk.first ∷ set.walk.rows) seen [] chosen) where
+  -- the writes of the file and of the directories above it, those of the quota rows, and the tables with them
   abbrev rows : List (Key × Option Row)
   rows = new_file_rows set.walk.down.at.there.row.id.0 view.next.0 user ups name client
+
+  abbrev more : List (Key × Option Row)
+  more = quota_writes (raised (length set.walk.down.rest) 0) chosen
 
   abbrev filed : Tables
   filed = written tables (new_file_rows set.walk.down.at.there.row.id.0 view.next.0 user ups name client)
 
   abbrev after : Tables
-  after = written filed more
+  after = written filed (quota_writes (raised (length set.walk.down.rest) 0) chosen)
 
   -- the namespace then
   abbrev later : Namespace
@@ -83,33 +87,23 @@ module _ (tables : Tables) (space : Namespace) (locked : List (Key × Mode)) (se
   later_is : with_entry (with_dirs space user (paths_below (reverse set.walk.down.dir) (ups ++ name ∷ []))) (reverse set.walk.down.dir ++ (ups ++ name ∷ [])) (plain_words.new_file client user) ≡ later
   later_is = λ i. with_entry (with_dirs space user (sym missing_split i)) (path_split i) (plain_words.new_file client user)
 
-  quotas_are : filed.quotas ≡ tables.quotas
-  quotas_are = quotas_filed ups tables set.walk.down.at.there.row.id.0 view.next.0 user name client
-
-  quotas_raised : IsRaisedIn (set.walk.first ∷ set.walk.rows) (length set.walk.down.rest) tables.quotas after.quotas
-  quotas_raised =
-      subst (λ (q : Quotas). IsRaisedIn (set.walk.first ∷ set.walk.rows) (length set.walk.down.rest) q after.quotas) quotas_are
-      (raised_in (set.walk.first ∷ set.walk.rows) seen (length set.walk.down.rest) filed more raises
-      (λ id has. seen_of tables.inodes tables.quotas space set.stands locked seen set.sees (set.walk.first ∷ set.walk.rows) set.walk.there locks id has ∙ ap (λ (q : Quotas). quota_of q id) (sym quotas_are))
-      (λ at quota e. set.stands.keys at quota (ap (λ (q : Quotas). map.get q at) (sym quotas_are) ∙ e)))
-
   recounted : IsRecounted tables.inodes place.path (names_more (length set.walk.down.rest)) tables.quotas after.quotas
-  recounted = recounted_raised tables view.next.0 space locked seen place set (length set.walk.down.rest) after.quotas quotas_raised
+  recounted = recounted_raised tables view.next.0 space locked seen place set locks chosen are (length set.walk.down.rest) filed (quotas_filed ups tables set.walk.down.at.there.row.id.0 view.next.0 user name client)
 
   inodes_are : after.inodes ≡ filed.inodes
-  inodes_are = inodes_raised (set.walk.first ∷ set.walk.rows) seen (length set.walk.down.rest) filed more raises.each
+  inodes_are = inodes_written (raised (length set.walk.down.rest) 0) chosen filed
 
   next_is : next_after view.next.0 (rows ++ more) ≡ last_id
   next_is =
       next_after-append rows more view.next.0
-      ∙ next_raised (set.walk.first ∷ set.walk.rows) seen (length set.walk.down.rest) (next_after view.next.0 rows) more raises.each
+      ∙ next_written (raised (length set.walk.down.rest) 0) chosen (next_after view.next.0 rows)
       ∙ next_filed ups set.walk.down.at.there.row.id.0 view.next.0 user name client
 
   long : length set.walk.down.rest ≡ length ups + 1
   long = ap (λ (p : List (List ℕ)). length p) split ∙ length-append ups (name ∷ [])
 
   count : length (missing space place.path) ≡ length ups + 1
-  count = ap (λ (ps : List Path). length ps) (missing_is tables view.next.0 space locked seen place set) ∙ long_below (reverse set.walk.down.dir) set.walk.down.rest ∙ long
+  count = ap (λ (ps : List Path). length ps) (missing_is tables view.next.0 space locked seen place set) ∙ paths_below-length set.walk.down.rest (reverse set.walk.down.dir) ∙ long
 
   tree_then : IsTree filed.inodes last_id
   tree_then = tree_filed ups tables view.next.0 set.tree set.walk.down.dir set.walk.down.at.there.row user name client set.walk.down.at.spelt dir none
@@ -181,15 +175,18 @@ module _ (tables : Tables) (space : Namespace) (locked : List (Key × Mode)) (se
       })
 
   -- an answer that makes the file
-  pub filed_answer : (asked : Call) (reply : Reply) (writes : List (Key × Option Row)) → ((old new : Namespace) → move_of old new asked ≡ None) → length ups + 1 ≤ sum_by (λ (p : Path). length p) (paths_of asked)
+  pub filed_answer : (asked : Call) (reply : Reply) (writes : List (Key × Option Row)) → ((old new : Namespace) → move_of old new asked ≡ None) → changes asked ≡ true → length ups + 1 ≤ sum_by (λ (p : Path). length p) (paths_of asked)
       → plain space client user asked ≡ granted later → as_read reply ≡ (granted later).reply → writes ≡ rows ++ more → IsAnswer tables space client user asked view reply writes
-  filed_answer asked reply writes still few answer reads is =
+  filed_answer asked reply writes still acts few answer reads is =
       let tables_are : written tables (rows ++ more) ≡ after = written-append rows more tables in
       subst (IsAnswer tables space client user asked view reply) (sym is) (record {
         told = reads ∙ sym (ap (λ (a : Answered). a.reply) answer);
+        quiet = λ exception refused. (let bad : Truth true ≡ Refused exception = sym reads ∙ ap as_read refused in cc);
+        looks = λ same. (let bad : true ≡ false = sym acts ∙ same in cc);
         rows = subst (IsOf (written tables (rows ++ more)) (next_after view.next.0 (rows ++ more))) (sym (ap (λ (a : Answered). a.space) answer))
             (subst (λ (n : ℕ). IsOf (written tables (rows ++ more)) n later) (sym next_is) (subst (λ (t : Tables). IsOf t last_id later) (sym tables_are) rows_of));
-        flags = λ unflagged. subst (λ (t : Tables). IsUnflagged t.inodes) (sym tables_are) (subst IsUnflagged (sym inodes_are) (unflagged_filed ups tables set.walk.down.at.there.row.id.0 view.next.0 user name client unflagged));
+        flags = λ k some. ap (λ (t : Tables). flag_at t.inodes k) tables_are ∙ ap (λ (inodes : Inodes). flag_at inodes k) inodes_are
+            ∙ flags_filed ups tables view.next.0 set.tree set.walk.down.dir set.walk.down.at.there.row user name client set.walk.down.at.spelt dir none k;
         few = let past = next_is in omega arith;
         ids = subst (AreIds tables view.next.0 (written tables (rows ++ more)) (next_after view.next.0 (rows ++ more)) space client asked) (sym answer)
             (λ numbering s number times answered given.

@@ -9,15 +9,12 @@ pub mod DeletePlaceLemmas
 pub mod FileRowLemmas
 pub mod FiledLemmas
 pub mod ListLemmas
-pub mod LowerLemmas
 pub mod MadeLemmas
 pub mod MissingLemmas
 pub mod OutcomeLemmas
 pub mod OverwriteLemmas
 pub mod PlaceLemmas
 pub mod QuotaLemmas
-pub mod RaiseLemmas
-pub mod RaisingLemmas
 pub mod RemovedLemmas
 pub mod TableLemmas
 pub mod ToldLemmas

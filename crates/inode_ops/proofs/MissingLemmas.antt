@@ -15,7 +15,10 @@ use Rattle.db_state.specs.declared.view.Place.{Place}
 use Rattle.db_state.specs.declared.outcome.Outcome.{Outcome}
 use Rattle.db_state.specs.NewDirs.{new_dirs}
 use Rattle.inode_ops.specs.Outcomes.{CanRaise}
-use Rattle.inode_ops.specs.Steps.{HasNoQuotas, IsRefused, IsMadeUnless}
+use Rattle.inode_ops.specs.declared.quotas.Change.TheVariants.{More}
+use Rattle.inode_ops.specs.QuotaSteps.{CanCount}
+use Rattle.inode_ops.specs.Steps.{IsRefused, IsMadeUnless}
+use Rattle.inode_ops.proofs.CountLemmas.{HasNoQuotas}
 
 -- new directories write no quota row
 pub dirs_new : (parent next : ℕ) (owner : List ℕ) (names : List (List ℕ)) → HasNoQuotas (new_dirs parent next owner names)
@@ -26,9 +29,9 @@ dirs_new parent next owner (name ∷ names) id = elim (keys_tell (key.Quota id) 
 ]
 
 -- fewer names can be counted where more can
-pub can_fewer : (few many : ℕ) (quotas : List (InodeId × QuotaRow)) → few ≤ many → CanRaise many quotas → CanRaise few quotas
+pub can_fewer : (few many : ℕ) (quotas : List (InodeId × QuotaRow)) → few ≤ many → CanRaise many quotas → CanCount (More few 0) quotas
 can_fewer few many [] le can = tt
-can_fewer few many (q ∷ quotas) le can = ((let bound = can.0 in omega arith), can_fewer few many quotas le can.1)
+can_fewer few many (q ∷ quotas) le can = (((let bound = can.0 in omega arith), λ some. absurd (omega arith)), can_fewer few many quotas le can.1)
 
 -- all that stands from a place on
 pub rest_is : (names path : List (List ℕ)) (i : ℕ) → names ≡ path → take (length names - i) (drop i names) ≡ drop i path

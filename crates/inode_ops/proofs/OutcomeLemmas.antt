@@ -40,13 +40,18 @@ use Rattle.db_state.specs.declared.outcome.Outcome.TheVariants.{Answer, Subtree}
 use Rattle.db_state.specs.declared.view.Place.{Place}
 use Rattle.db_state.specs.declared.view.View.{View}
 use Rattle.db_state.specs.declared.writes.Row.{Row}
+use Rattle.db_state.specs.FileLaws.{paths_below-length}
 use Rattle.db_state.specs.NewDirs.{new_dirs}
+use Rattle.db_state.specs.QuotaWrites.{quota_writes, raised}
 use Rattle.inode_ops.specs.Outcomes.{path_of, CanMake, IsViewOf}
-use Rattle.inode_ops.specs.Steps.{status_of, status_of_kind, first_full, missing_names, AreRaised, IsMadeUnless, MkdirsOf, AnswersMkdirs, StatOf, AnswersStat}
+use Rattle.inode_ops.specs.QuotaSteps.{first_full, AreQuotasFound}
+use Rattle.inode_ops.specs.Steps.{status_of, status_of_kind, missing_names, IsMadeUnless, MkdirsOf, AnswersMkdirs, StatOf, AnswersStat}
 use Rattle.inode_ops.specs.Table.{IsBefore, IsAnswer, IsCallsTable}
+use Rattle.inode_ops.proofs.CountLemmas.{all_found}
+use Rattle.inode_ops.proofs.MissingLemmas.{dirs_new}
 use Rattle.inode_ops.proofs.QuotaLemmas.{LocksQuota, locks_each, none_more}
 use Rattle.inode_ops.proofs.PlaceLemmas.{IsSet, walk_of, some_deepest, path_is, last_is, deepest_is, rest_is, whole_rest, partial_rest, entry_bottom, missing_entry, missing_is, over_is}
-use Rattle.inode_ops.proofs.TableLemmas.{tree_at, unchanged, made, long_below}
+use Rattle.inode_ops.proofs.TableLemmas.{tree_at, unchanged, made}
 
 -- ---- the view
 
@@ -163,7 +168,7 @@ module _ (tables : Tables) (bound : ℕ) (space : Namespace) (client : ClientNo)
       let entry = entry_bottom tables view.next.0 space locked view.quotas.items place set in
       let is_dir : is_file (Some (entry_of tables.quotas set.walk.down.at.there.row)) ≡ false = dir_of set.walk.down.at.there.row.kind set.walk.down.at.there.row (quota_of tables.quotas set.walk.down.at.there.row.id) (row_kind Dir dir) in
       let here : is_file (entry_at space (reverse set.walk.down.dir ++ set.walk.down.rest)) ≡ false = ap is_file (ap (entry_at space) path ∙ partial_entry part) in
-      let count : length (paths_below (reverse set.walk.down.dir) set.walk.down.rest) ≡ length (missing_names place) = long_below (reverse set.walk.down.dir) set.walk.down.rest ∙ ap (λ (names : List (List ℕ)). length names) (sym (rest_is tables view.next.0 space locked view.quotas.items place set)) in
+      let count : length (paths_below (reverse set.walk.down.dir) set.walk.down.rest) ≡ length (missing_names place) = paths_below-length set.walk.down.rest (reverse set.walk.down.dir) ∙ ap (λ (names : List (List ℕ)). length names) (sym (rest_is tables view.next.0 space locked view.quotas.items place set)) in
       ap (mkdirs space user) (sym path)
       ∙ mkdirs-below space set.names user (reverse set.walk.down.dir) set.walk.down.rest (entry_of tables.quotas set.walk.down.at.there.row) entry is_dir (missing_entry tables view.next.0 space locked view.quotas.items place set) here
       ∙ ap (λ (n : ℕ). unless (over_quota space n 0 (above (reverse set.walk.down.dir ++ set.walk.down.rest))) space (granted (with_dirs space user (paths_below (reverse set.walk.down.dir) set.walk.down.rest)))) count
@@ -183,12 +188,12 @@ module _ (tables : Tables) (bound : ℕ) (space : Namespace) (client : ClientNo)
       kept (call.Mkdirs place.path) reply (Refused exception) writes.items refl (plain_below part dir locks ∙ ap (λ (o : Option Exception). unless o space (granted (with_dirs space user (missing space place.path)))) full) (ap Rattle.name_space.specs.Calls.as_read is.0) is.1
   answer_below part dir locks reply writes None full is =
       let rest = rest_is tables view.next.0 space locked view.quotas.items place set in
-      let more : List (Key × Option Row) = is.1.0 in
-      let raised : AreRaised (set.walk.first ∷ set.walk.rows) view.quotas.items (length set.walk.down.rest) more =
-      subst (λ (rs : List (Key × Inode)). AreRaised rs view.quotas.items (length set.walk.down.rest) more) set.walk.items (subst (λ (names : List (List ℕ)). AreRaised place.found.items view.quotas.items (length names) more) rest is.1.2) in
-      let items : writes.items ≡ new_dirs set.walk.down.at.there.row.id.0 view.next.0 user set.walk.down.rest ++ more =
-      is.1.1 ∙ ap (λ (names : List (List ℕ)). new_dirs set.walk.down.bottom.1.id.0 view.next.0 user names ++ more) rest ∙ ap (λ (i : InodeId). new_dirs i.0 view.next.0 user set.walk.down.rest ++ more) (sym set.walk.down.at.there.id) in
-      made tables space locked view.quotas.items place view set locks (row_kind Dir dir) user more raised client (call.Mkdirs place.path) reply writes.items (λ old new. refl) (let few = set.walk.down.few in omega arith)
+      let chosen : List (InodeId × QuotaRow) = is.1.0 in
+      let found : AreQuotasFound (set.walk.first ∷ set.walk.rows) view.quotas.items [] chosen =
+      subst (λ (rs : List (Key × Inode)). AreQuotasFound rs view.quotas.items [] chosen) set.walk.items (all_found place.found.items view.quotas.items (new_dirs set.walk.down.bottom.1.id.0 view.next.0 user (missing_names place)) chosen (dirs_new set.walk.down.bottom.1.id.0 view.next.0 user (missing_names place)) is.1.2) in
+      let items : writes.items ≡ new_dirs set.walk.down.at.there.row.id.0 view.next.0 user set.walk.down.rest ++ quota_writes (raised (length set.walk.down.rest) 0) chosen =
+      is.1.1 ∙ (λ i. new_dirs (sym set.walk.down.at.there.id i).0 view.next.0 user (rest i) ++ quota_writes (raised (length (rest i)) 0) chosen) in
+      made tables space locked view.quotas.items place view set (subst (AllByRecursion (LocksQuota locked)) set.walk.items locks) (row_kind Dir dir) user chosen found client (call.Mkdirs place.path) reply writes.items (λ old new. refl) refl (let few = set.walk.down.few in omega arith)
       (plain_below part dir locks ∙ ap (λ (o : Option Exception). unless o space (granted (with_dirs space user (missing space place.path)))) full) (ap Rattle.name_space.specs.Calls.as_read is.0) items
 
   -- what `mkdirs` answers

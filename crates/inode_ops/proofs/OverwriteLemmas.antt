@@ -1,5 +1,5 @@
 -- A file that is overwritten against the calls table: its row, and the quota rows along its path.
-use Rattle.std.proofs.Common.{◌≡◌, ◌≢◌, ℕ, ◌+◌, ◌<◌, ◌≤◌, Bool, true, cond, not, ◌||◌, max, List, [], ◌∷◌, ◌++◌, reverse, Option, Some, None, is_some, arith, refl, sym, ap, subst, ◌∙◌, inl, inr, append-nil}
+use Rattle.std.proofs.Common.{◌≡◌, ◌≢◌, ℕ, ◌+◌, ◌<◌, ◌≤◌, Bool, true, false, cond, not, ◌||◌, max, List, [], ◌∷◌, ◌++◌, reverse, Option, Some, None, is_some, arith, refl, sym, ap, subst, ◌∙◌, inl, inr, append-nil}
 use Rattle.std.proofs.lemmas.List.{reverse-reverse}
 use Rattle.std.specs.FinMap as map
 use Rattle.std.specs.List.{AllByRecursion}
@@ -12,10 +12,12 @@ use Rattle.name_space.specs.declared.call.Call.{Call}
 use Rattle.name_space.specs.declared.entry.Entry.{Entry}
 use Rattle.name_space.specs.declared.entry.Entry.TheVariants as entry
 use Rattle.name_space.specs.declared.reply.Reply.{Reply}
+use Rattle.name_space.specs.declared.reply.Reply.TheVariants.{Truth, Refused}
 use Rattle.name_space.specs.Namespace.{Namespace, Path, entry_at, exists, is_within, with_entry, missing, used_bytes}
 use Rattle.name_space.specs.NamespaceLaws.{dir-exists, entry_at-with_entry, Rises-with_entry}
 use Rattle.name_space.specs.UsageLaws.{used_bytes-with_old}
 use Rattle.name_space.specs.Plain.{Answered, new_file, granted}
+use Rattle.name_space.specs.Call.{changes}
 use Rattle.name_space.specs.Calls.{plain, as_read}
 use Rattle.commit_log.specs.declared.note.Note.{Note}
 use Rattle.commit_log.specs.declared.note.Note.TheVariants.{Did}
@@ -26,7 +28,7 @@ use Rattle.inode_table.specs.declared.inode.Kind.{Kind}
 use Rattle.inode_table.specs.declared.inode.Kind.TheVariants.{Dir, File}
 use Rattle.quota_table.specs.declared.quota.QuotaRow.{QuotaRow}
 use Rattle.db_state.specs.State.{Tables, root_key, root_row}
-use Rattle.db_state.specs.Consistent.{IsUnflagged}
+use Rattle.db_state.specs.Consistent.{flag_at}
 use Rattle.db_state.specs.Spelled.{Inodes, spelled, row_of, IsTree}
 use Rattle.db_state.specs.Stands.{quota_of, entry_of, entry_of_kind, Stands}
 use Rattle.db_state.specs.Counts.{Counts}
@@ -36,14 +38,14 @@ use Rattle.db_state.specs.declared.view.View.{View}
 use Rattle.db_state.specs.declared.writes.Row.{Row}
 use Rattle.db_state.specs.declared.writes.Row.TheVariants as row
 use Rattle.db_state.specs.Plan.{is_whole}
-use Rattle.db_state.specs.ChangeLaws.{stands_changed, tree_changed, given_changed, unflagged_changed}
+use Rattle.db_state.specs.ChangeLaws.{stands_changed, tree_changed, given_changed, flags_changed}
 use Rattle.db_state.specs.CountLaws.{in_place, counts_changed, stands_recounted, is_along-within}
 use Rattle.db_state.specs.QuotaWrites.{quota_writes, lowered}
 use Rattle.db_state.specs.QuotaWriteLaws.{inodes_written, next_written, becomes_lowered}
 use Rattle.db_state.specs.Recounted.{is_along, IsRecounted}
 use Rattle.inode_ops.specs.Table.{IsOf, IsNumberedBy, AreIds, IsAnswer}
 use Rattle.inode_ops.specs.CreateSteps.{overwritten}
-use Rattle.inode_ops.specs.LowerSteps.{AreRowsOf}
+use Rattle.inode_ops.specs.QuotaSteps.{AreQuotasFound}
 use Rattle.inode_ops.proofs.QuotaLemmas.{LocksQuota}
 use Rattle.inode_ops.proofs.PlaceLemmas.{IsSet, path_is, whole_rest, entry_bottom}
 use Rattle.inode_ops.proofs.AlongLemmas.{recounted_chosen}
@@ -51,7 +53,7 @@ use Rattle.inode_ops.proofs.TableLemmas.{or_none, or_true}
 
 module _ (tables : Tables) (space : Namespace) (locked : List (Key × Mode)) (seen : List (InodeId × QuotaRow)) (place : Place) (view : View) (set : IsSet tables view.next.0 space locked seen place)
     (locks : AllByRecursion (LocksQuota locked) (set.walk.first ∷ set.walk.rows)) (whole : is_whole place ≡ true) (file : set.walk.down.at.there.row.kind ≡ File) (client : ClientNo) (user : List ℕ)
-    (chosen : List (InodeId × QuotaRow)) (are : AreRowsOf (set.walk.first ∷ set.walk.rows) seen chosen) where
+    (chosen : List (InodeId × QuotaRow)) (are : AreQuotasFound (set.walk.first ∷ set.walk.rows) seen [] chosen) where
   -- the file's row and what it becomes
   abbrev old : Inode
   old = set.walk.down.at.there.row
@@ -117,7 +119,7 @@ module _ (tables : Tables) (space : Namespace) (locked : List (Key × Mode)) (se
       omega arith
 
   recounted : IsRecounted tables.inodes place.path (in_place was now) tables.quotas after.quotas
-  recounted = recounted_chosen tables view.next.0 space locked seen place set locks chosen are (in_place was now) (lowered 0 old.len) inodes
+  recounted = recounted_chosen tables view.next.0 space locked seen place set locks chosen are (in_place was now) (lowered 0 old.len) (record { inodes = inodes; quotas = tables.quotas }) refl
       (λ id quota e along. becomes_lowered 0 old.len quota (omega arith) (enough id quota e along))
 
   inodes_are : after.inodes ≡ inodes
@@ -168,12 +170,14 @@ module _ (tables : Tables) (space : Namespace) (locked : List (Key × Mode)) (se
       nothing root (name ∷ names) = or_none (exists space (name ∷ names))
 
   -- an answer that overwrites the file
-  pub overwritten_answer : (asked : Call) (reply : Reply) (writes : List (Key × Option Row)) → ((before then : Namespace) → move_of before then asked ≡ None) → plain space client user asked ≡ granted later → as_read reply ≡ (granted later).reply → writes ≡ rows
+  pub overwritten_answer : (asked : Call) (reply : Reply) (writes : List (Key × Option Row)) → ((before then : Namespace) → move_of before then asked ≡ None) → changes asked ≡ true → plain space client user asked ≡ granted later → as_read reply ≡ (granted later).reply → writes ≡ rows
       → IsAnswer tables space client user asked view reply writes
-  overwritten_answer asked reply writes still answer reads is = subst (IsAnswer tables space client user asked view reply) (sym is) (record {
+  overwritten_answer asked reply writes still acts answer reads is = subst (IsAnswer tables space client user asked view reply) (sym is) (record {
     told = reads ∙ sym (ap (λ (a : Answered). a.reply) answer);
+    quiet = λ exception refused. (let bad : Truth true ≡ Refused exception = sym reads ∙ ap as_read refused in cc);
+    looks = λ same. (let bad : true ≡ false = sym acts ∙ same in cc);
     rows = subst (IsOf (written tables rows) (next_after view.next.0 rows)) (sym (ap (λ (a : Answered). a.space) answer)) (subst (λ (n : ℕ). IsOf (written tables rows) n later) (sym next_is) rows_of);
-    flags = λ unflagged. subst IsUnflagged (sym inodes_are) (unflagged_changed tables.inodes view.next.0 set.tree set.walk.down.bottom.0 old new set.walk.down.at.there.there refl unflagged refl);
+    flags = λ k some. ap (λ (inodes : Inodes). flag_at inodes k) inodes_are ∙ flags_changed tables.inodes view.next.0 set.tree set.walk.down.bottom.0 old new set.walk.down.at.there.there refl refl k;
     few = let past = next_is in omega arith;
     ids = subst (AreIds tables view.next.0 (written tables rows) (next_after view.next.0 rows) space client asked) (sym answer)
         (λ numbering s number times answered given.

@@ -20,7 +20,8 @@ use Rattle.db_state.specs.declared.view.Place.{Place}
 use Rattle.db_state.specs.Plan.{deepest, is_whole, last_found}
 use Rattle.db_state.specs.Current.{Leads, Spells, SpellsPlace, IsThere, IsMissing, SeesQuotas}
 use Rattle.db_state.specs.NewDirs.{FirstMissing}
-use Rattle.inode_ops.specs.Steps.{first_full, missing_names}
+use Rattle.inode_ops.specs.QuotaSteps.{quota_in, full_at, first_full}
+use Rattle.inode_ops.specs.Steps.{missing_names}
 use Rattle.inode_ops.proofs.WalkLemmas.{IsAt, IsDeep, at_root, deep, stopped}
 use Rattle.inode_ops.proofs.QuotaLemmas.{LocksQuota, rule_is, map-same}
 
@@ -179,5 +180,5 @@ module _ (tables : Tables) (next : ℕ) (space : Namespace) (locked : List (Key 
       let long : length set.walk.down.rest ≡ length (rest.0 ∷ rest.1) = ap length rest.2 in
       let rule = rule_is tables.inodes tables.quotas space set.stands locked seen set.sees next set.tree set.names set.counts names place.path [] set.walk.first set.walk.rows place.missing set.walk.down.bottom set.walk.at set.walk.leads set.walk.there.1 (subst (AllByRecursion (LocksQuota locked)) set.walk.items locks) set.none set.walk.down.found dir (omega arith) in
       ap (over_quota space names 0) (sym (map-same (above place.path))) ∙ rule
-      ∙ ap (λ (ps : List Path). first_some (list_map (λ (d : Path × (Key × Inode)). Rattle.inode_ops.specs.Steps.full_at d.0 names (Rattle.inode_ops.specs.Steps.quota_in seen d.1.1.id)) (zip ps (set.walk.first ∷ set.walk.rows)))) (map-same (above place.path))
+      ∙ ap (λ (ps : List Path). first_some (list_map (λ (d : Path × (Key × Inode)). full_at d.0 names (quota_in seen d.1.1.id)) (zip ps (set.walk.first ∷ set.walk.rows)))) (map-same (above place.path))
       ∙ ap (λ (rs : List (Key × Inode)). first_full place.path rs seen names) (sym set.walk.items)

@@ -27,7 +27,7 @@ use Rattle.db_state.specs.Stands.{Quotas, quota_of, entry_of, entry_of_kind, Sta
 use Rattle.db_state.specs.Counts.{Counts}
 use Rattle.db_state.specs.Plan.{where_so}
 use Rattle.db_state.specs.Current.{Leads, IsThere, IsMissing, SeesQuotas, is_locked}
-use Rattle.inode_ops.specs.Steps.{quota_in, full_at, has_id}
+use Rattle.inode_ops.specs.QuotaSteps.{quota_in, full_at, has_id}
 use Rattle.inode_ops.proofs.WalkLemmas.{IsAt, at_next, stopped, regroup}
 
 -- ---- lists of paths

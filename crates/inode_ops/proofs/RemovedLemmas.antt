@@ -26,9 +26,9 @@ use Rattle.db_state.specs.State.{Tables, root_key}
 use Rattle.db_state.specs.Spelled.{Inodes, spelled, row_of, IsTree, AreGiven}
 use Rattle.db_state.specs.Stands.{Quotas, quota_of, entry_of, Stands}
 use Rattle.db_state.specs.Counts.{Counts}
-use Rattle.db_state.specs.Consistent.{IsUnflagged}
+use Rattle.db_state.specs.Consistent.{FlagsStay}
 use Rattle.db_state.specs.Written.{written}
-use Rattle.db_state.specs.RemoveLaws.{not_root_key, tree_removed, unflagged_removed, given_removed, stands_removed}
+use Rattle.db_state.specs.RemoveLaws.{not_root_key, tree_removed, flags_removed, given_removed, stands_removed}
 use Rattle.db_state.specs.UnderLaws.{none_under_leaf, entry_at-without_leaf, used_names-leaf, used_bytes-leaf}
 use Rattle.db_state.specs.Recounted.{is_along, IsRecounted}
 use Rattle.db_state.specs.CountLaws.{is_along-within, stands_recounted, one_gone, counts_removed}
@@ -211,8 +211,8 @@ module _ (tables : Tables) (next : ℕ) (tree : IsTree tables.inodes next) (spac
             (λ id quota e. (was_there id quota e).1) recounted);
       }
 
-      pub flags_removed : IsUnflagged tables.inodes → IsUnflagged (written after (quota_writes (lowered 1 (bytes_of (entry_of tables.quotas old))) quotas)).inodes
-      flags_removed unflagged = subst IsUnflagged (sym inodes_then) (unflagged_removed tables.inodes next tree at old there under below unflagged)
+      pub flags_then : FlagsStay tables.inodes (written after (quota_writes (lowered 1 (bytes_of (entry_of tables.quotas old))) quotas)).inodes
+      flags_then = subst (FlagsStay tables.inodes) (sym inodes_then) (flags_removed tables.inodes next tree at old there under below)
 
       -- and have the ids that the history gives
       pub ids_removed : (numbering : Numbering) (note : Note) → move_in space (without space path) note ≡ None → IsNumberedBy numbering tables.inodes next space

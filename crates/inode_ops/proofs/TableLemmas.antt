@@ -1,7 +1,6 @@
 -- Answers that change nothing, and those that make directories, against the calls table.
-use Rattle.std.proofs.Common.{◌≡◌, ℕ, ◌+◌, ◌≤◌, Bool, true, false, cond, not, ◌&&◌, ◌||◌, max, List, [], ◌∷◌, ◌++◌, length, reverse, Option, Some, None, is_some, arith, add-zero, suc, refl, sym, ap, subst, ◌∙◌}
+use Rattle.std.proofs.Common.{◌≡◌, ℕ, ◌+◌, ◌≤◌, Bool, true, false, cond, not, ◌&&◌, ◌||◌, List, [], ◌∷◌, ◌++◌, length, reverse, Option, Some, None, is_some, arith, refl, sym, ap, subst, ◌∙◌}
 use Rattle.std.proofs.lemmas.Bool.{true≢false}
-use Rattle.std.specs.FinMap as map
 use Rattle.std.specs.FinMap.Entries as entries
 use Rattle.std.specs.List.{AllByRecursion, sum_by}
 use Rattle.hops_base.specs.Path.{path_cmp, path_cmp_total, same_path}
@@ -10,12 +9,11 @@ use Rattle.hops_base.specs.declared.ids.InodeId.{InodeId}
 use Rattle.hops_base.specs.declared.ids.Mode.{Mode}
 use Rattle.hops_base.specs.declared.ids.SessionId.{SessionId}
 use Rattle.hops_base.specs.declared.key.Key.{Key}
-use Rattle.hops_base.specs.declared.key.Key.TheVariants as key
-use Rattle.hops_base.specs.Key.{key_cmp_total, same_key}
-use Rattle.name_space.specs.Call.{paths_of}
+use Rattle.name_space.specs.Call.{paths_of, changes}
 use Rattle.name_space.specs.declared.call.Call.{Call}
 use Rattle.name_space.specs.declared.entry.Entry.{Entry}
 use Rattle.name_space.specs.declared.reply.Reply.{Reply}
+use Rattle.name_space.specs.declared.reply.Reply.TheVariants.{Truth, Refused}
 use Rattle.name_space.specs.Namespace as spaces
 use Rattle.name_space.specs.Namespace.{Namespace, Path, IsNamespace, entry_at, exists, is_within, paths_below, missing}
 use Rattle.name_space.specs.NamespaceLaws.{dir-exists, entry_at-with_dirs, Rises-with_dirs}
@@ -25,32 +23,34 @@ use Rattle.name_space.specs.Plain.{Answered, with_dirs, told, granted}
 use Rattle.name_space.specs.Calls.{plain, as_read}
 use Rattle.commit_log.specs.declared.note.Note.{Note}
 use Rattle.commit_log.specs.declared.note.Note.TheVariants.{Did}
-use Rattle.commit_log.specs.Ids.{Numbering, id_at, with_new, move_of, numbering_after}
+use Rattle.commit_log.specs.Ids.{Numbering, id_at, with_new, move_of, move_in, numbering_after}
 use Rattle.commit_log.specs.NumberLaws.{numbering-missing}
-use Rattle.inode_table.specs.declared.inode.Inode.{Inode}
 use Rattle.inode_table.specs.declared.inode.Kind.TheVariants.{Dir}
 use Rattle.quota_table.specs.declared.quota.QuotaRow.{QuotaRow}
-use Rattle.db_state.specs.State.{Tables, new_dir}
-use Rattle.db_state.specs.Consistent.{IsUnflagged}
+use Rattle.db_state.specs.State.{Tables}
+use Rattle.db_state.specs.Consistent.{flag_at}
 use Rattle.db_state.specs.Spelled.{Inodes, IsTree, AreGiven}
-use Rattle.db_state.specs.Stands.{Quotas, quota_of, Stands}
+use Rattle.db_state.specs.Stands.{Stands}
 use Rattle.db_state.specs.Counts.{Counts}
 use Rattle.db_state.specs.Current.{IsFree}
 use Rattle.db_state.specs.Written.{written, next_after}
 use Rattle.db_state.specs.declared.view.Place.{Place}
 use Rattle.db_state.specs.declared.view.View.{View}
 use Rattle.db_state.specs.declared.writes.Row.{Row}
-use Rattle.db_state.specs.NewDirs.{new_dirs, Unremoved}
+use Rattle.db_state.specs.NewDirs.{new_dirs, FirstMissing, Unremoved}
 use Rattle.db_state.specs.ChainLaws.{quotas_chained, tree_chained, stands_chained}
 use Rattle.db_state.specs.NumberLaws.{given_chained, next_with_new}
-use Rattle.db_state.specs.FileLaws.{written-append, next_after-append}
-use Rattle.db_state.specs.GrowthLaws.{still_chained}
+use Rattle.db_state.specs.FileLaws.{written-append, next_after-append, next_chained, paths_below-length, flags_chained}
+use Rattle.db_state.specs.GrowthLaws.{names_more, counts_chained}
+use Rattle.db_state.specs.CountLaws.{stands_recounted}
+use Rattle.db_state.specs.Recounted.{IsRecounted}
+use Rattle.db_state.specs.QuotaWrites.{quota_writes, raised}
+use Rattle.db_state.specs.QuotaWriteLaws.{inodes_written, next_written}
 use Rattle.inode_ops.specs.Table.{IsOf, IsNumberedBy, AreIds, IsAnswer}
-use Rattle.inode_ops.specs.Steps.{AreRaised}
-use Rattle.inode_ops.proofs.QuotaLemmas.{LocksQuota, seen_of}
-use Rattle.inode_ops.proofs.RaiseLemmas.{next_raised, inodes_raised, IsRaisedIn, raised_in, stands_raised}
-use Rattle.inode_ops.proofs.PlaceLemmas.{IsSet, missing_is, missing_row}
-use Rattle.inode_ops.proofs.CountLemmas.{counts_made}
+use Rattle.inode_ops.specs.QuotaSteps.{AreQuotasFound}
+use Rattle.inode_ops.proofs.QuotaLemmas.{LocksQuota}
+use Rattle.inode_ops.proofs.PlaceLemmas.{IsSet, path_is, missing_is, missing_row}
+use Rattle.inode_ops.proofs.AlongLemmas.{recounted_raised}
 
 -- rows spell a tree with every next id that is above theirs
 pub tree_at : (inodes : Inodes) (bound next : ℕ) → IsTree inodes bound → IsFree inodes next → IsTree inodes next
@@ -93,8 +93,10 @@ pub unchanged : (tables : Tables) (bound : ℕ) (space : Namespace) (client : Cl
 unchanged tables bound space client user asked view reply said writes tree is stands counts still answer reads none =
     subst (IsAnswer tables space client user asked view reply) (sym none) (record {
       told = reads ∙ sym (ap (λ (a : Answered). a.reply) answer);
+      quiet = λ exception refused. refl;
+      looks = λ same. refl;
       rows = subst (IsOf tables view.next.0) (sym (ap (λ (a : Answered). a.space) answer)) (record { tree = tree; stands = stands; counts = counts });
-      flags = λ unflagged. unflagged;
+      flags = λ k some. refl;
       few = omega arith;
       ids = subst (AreIds tables view.next.0 tables view.next.0 space client asked) (sym answer) same;
     })
@@ -103,19 +105,6 @@ unchanged tables bound space client user asked view reply said writes tree is st
     same numbering s number times answered given = subst (λ (n : Numbering). IsNumberedBy n tables.inodes view.next.0 space) (sym (numbering_stays numbering space is s client number times asked answered still given.all)) given
 
 -- ---- directories are made
-
--- the next free id is past all of theirs
-pub next_dirs : (parent next : ℕ) (owner : List ℕ) (names : List (List ℕ)) → next_after next (new_dirs parent next owner names) ≡ next + length names
-next_dirs parent next owner [] = sym (add-zero next)
-next_dirs parent next owner (name ∷ names) =
-    let here : max next (next + 1) ≡ next + 1 = omega arith in
-    let rest = next_dirs next (next + 1) owner names in
-    let sum : next + 1 + length names ≡ next + suc (length names) = omega arith in
-    ap (λ (n : ℕ). next_after n (new_dirs next (next + 1) owner names)) here ∙ rest ∙ sum
-
-pub long_below : (path : Path) (names : List (List ℕ)) → length (paths_below path names) ≡ length names
-long_below path [] = refl
-long_below path (name ∷ names) = ap suc (long_below (path ++ name ∷ []) names)
 
 pub unremoved : (paths : List Path) → Unremoved [] paths
 unremoved [] = tt
@@ -135,86 +124,92 @@ all_new (path ∷ paths) numbering q =
     either false true o = refl
     either false false o = refl
 
--- new directories bear no flag
-unflagged_dirs : (names : List (List ℕ)) (tables : Tables) (parent next : ℕ) (owner : List ℕ) → IsUnflagged tables.inodes → IsUnflagged (written tables (new_dirs parent next owner names)).inodes
-unflagged_dirs [] tables parent next owner none = none
-unflagged_dirs (name ∷ names) tables parent next owner none = unflagged_dirs names (record { inodes = map.insert tables.inodes (key.Inode (record { 0 = parent }) name) (new_dir next owner); quotas = tables.quotas }) next (next + 1) owner (λ at row e.
-    let put = map.get-insert key_cmp_total tables.inodes (key.Inode (record { 0 = parent }) name) (new_dir next owner) at in
-    one_of (same_key at (key.Inode (record { 0 = parent }) name)) (map.get tables.inodes at) row (sym put ∙ e) (none at row))
-  where
-    one_of : (b : Bool) (o : Option Inode) (row : Inode) → cond b (Some (new_dir next owner)) o ≡ Some row → (o ≡ Some row → row.flag ≡ None) → row.flag ≡ None
-    one_of true o row e old = let same : new_dir next owner ≡ row = cc in ap (λ (r : Inode). r.flag) (sym same)
-    one_of false o row e old = old e
-
 exists_made : (b : Bool) (entry : Entry) (o : Option Entry) → is_some (cond b (Some entry) o) ≡ (b || is_some o)
 exists_made true entry o = refl
 exists_made false entry o = refl
 
 module _ (tables : Tables) (space : Namespace) (locked : List (Key × Mode)) (seen : List (InodeId × QuotaRow)) (place : Place) (view : View) (set : IsSet tables view.next.0 space locked seen place)
-    (locks : AllByRecursion (LocksQuota locked) place.found.items) (dir : set.walk.down.at.there.row.kind ≡ Dir) (user : List ℕ) (more : List (Key × Option Row))
-    (raises : AreRaised (set.walk.first ∷ set.walk.rows) seen (length set.walk.down.rest) more) where
-  -- the writes of the directories
-  dirs : List (Key × Option Row)
+    (locks : AllByRecursion (LocksQuota locked) (set.walk.first ∷ set.walk.rows)) (dir : set.walk.down.at.there.row.kind ≡ Dir) (user : List ℕ)
+    (chosen : List (InodeId × QuotaRow)) (are : AreQuotasFound (set.walk.first ∷ set.walk.rows) seen [] chosen) where
+  -- the writes of the directories and of the quota rows above them, and the tables with them
+  abbrev dirs : List (Key × Option Row)
   dirs = new_dirs set.walk.down.at.there.row.id.0 view.next.0 user set.walk.down.rest
 
-  tree_made : IsTree (written tables (new_dirs set.walk.down.at.there.row.id.0 view.next.0 user set.walk.down.rest)).inodes (view.next.0 + length set.walk.down.rest)
-  tree_made = tree_chained set.walk.down.rest tables view.next.0 set.tree set.walk.down.dir set.walk.down.at.there.row user set.walk.down.at.spelt dir (missing_row tables view.next.0 space locked seen place set)
+  abbrev more : List (Key × Option Row)
+  more = quota_writes (raised (length set.walk.down.rest) 0) chosen
+
+  abbrev chained : Tables
+  chained = written tables (new_dirs set.walk.down.at.there.row.id.0 view.next.0 user set.walk.down.rest)
+
+  abbrev after : Tables
+  after = written chained (quota_writes (raised (length set.walk.down.rest) 0) chosen)
 
   -- the namespace then
-  stands_made : Stands (written tables (new_dirs set.walk.down.at.there.row.id.0 view.next.0 user set.walk.down.rest)).inodes tables.quotas [] (with_dirs space user (missing space place.path))
-  stands_made = subst (λ (ps : List Path). Stands (written tables (new_dirs set.walk.down.at.there.row.id.0 view.next.0 user set.walk.down.rest)).inodes tables.quotas [] (with_dirs space user ps)) (sym (missing_is tables view.next.0 space locked seen place set))
-      (stands_chained set.walk.down.rest tables view.next.0 set.tree tables.quotas [] space set.stands set.walk.down.dir set.walk.down.at.there.row user set.walk.down.at.spelt dir (missing_row tables view.next.0 space locked seen place set)
+  abbrev later : Namespace
+  later = with_dirs space user (missing space place.path)
+
+  abbrev last_id : ℕ
+  last_id = view.next.0 + length set.walk.down.rest
+
+  none : FirstMissing tables.inodes set.walk.down.at.there.row.id set.walk.down.rest
+  none = missing_row tables view.next.0 space locked seen place set
+
+  all_missing : missing space place.path ≡ paths_below (reverse set.walk.down.dir) set.walk.down.rest
+  all_missing = missing_is tables view.next.0 space locked seen place set
+
+  count : length (missing space place.path) ≡ length set.walk.down.rest
+  count = ap (λ (ps : List Path). length ps) all_missing ∙ paths_below-length set.walk.down.rest (reverse set.walk.down.dir)
+
+  recounted : IsRecounted tables.inodes place.path (names_more (length set.walk.down.rest)) tables.quotas after.quotas
+  recounted = recounted_raised tables view.next.0 space locked seen place set locks chosen are (length set.walk.down.rest) chained (quotas_chained set.walk.down.rest tables set.walk.down.at.there.row.id.0 view.next.0 user)
+
+  inodes_are : after.inodes ≡ chained.inodes
+  inodes_are = inodes_written (raised (length set.walk.down.rest) 0) chosen chained
+
+  next_is : next_after view.next.0 (dirs ++ more) ≡ last_id
+  next_is =
+      next_after-append dirs more view.next.0
+      ∙ next_written (raised (length set.walk.down.rest) 0) chosen (next_after view.next.0 dirs)
+      ∙ next_chained set.walk.down.rest set.walk.down.at.there.row.id.0 view.next.0 user
+
+  tree_then : IsTree chained.inodes last_id
+  tree_then = tree_chained set.walk.down.rest tables view.next.0 set.tree set.walk.down.dir set.walk.down.at.there.row user set.walk.down.at.spelt dir none
+
+  stands_then : Stands chained.inodes tables.quotas [] later
+  stands_then =
+      subst (λ (ps : List Path). Stands chained.inodes tables.quotas [] (with_dirs space user ps)) (sym all_missing)
+      (stands_chained set.walk.down.rest tables view.next.0 set.tree tables.quotas [] space set.stands set.walk.down.dir set.walk.down.at.there.row user set.walk.down.at.spelt dir none
       (unremoved (paths_below (reverse set.walk.down.dir) set.walk.down.rest)))
 
-  count : length set.walk.down.rest ≡ length (missing space place.path)
-  count = sym (long_below (reverse set.walk.down.dir) set.walk.down.rest) ∙ ap (λ (ps : List Path). length ps) (sym (missing_is tables view.next.0 space locked seen place set))
-
-  quotas_made : IsRaisedIn (set.walk.first ∷ set.walk.rows) (length set.walk.down.rest) tables.quotas (written (written tables (new_dirs set.walk.down.at.there.row.id.0 view.next.0 user set.walk.down.rest)) more).quotas
-  quotas_made =
-      let same = quotas_chained set.walk.down.rest tables set.walk.down.at.there.row.id.0 view.next.0 user in
-      subst (λ (q : Quotas). IsRaisedIn (set.walk.first ∷ set.walk.rows) (length set.walk.down.rest) q (written (written tables (new_dirs set.walk.down.at.there.row.id.0 view.next.0 user set.walk.down.rest)) more).quotas) same
-      (raised_in (set.walk.first ∷ set.walk.rows) seen (length set.walk.down.rest) (written tables (new_dirs set.walk.down.at.there.row.id.0 view.next.0 user set.walk.down.rest)) more raises
-      (λ id has. seen_of tables.inodes tables.quotas space set.stands locked seen set.sees (set.walk.first ∷ set.walk.rows) set.walk.there (subst (AllByRecursion (LocksQuota locked)) set.walk.items locks) id has ∙ ap (λ (q : Quotas). quota_of q id) (sym same))
-      (λ at quota e. set.stands.keys at quota (ap (λ (q : Quotas). map.get q at) (sym same) ∙ e)))
-
-  inodes_made : (written (written tables (new_dirs set.walk.down.at.there.row.id.0 view.next.0 user set.walk.down.rest)) more).inodes ≡ (written tables (new_dirs set.walk.down.at.there.row.id.0 view.next.0 user set.walk.down.rest)).inodes
-  inodes_made = inodes_raised (set.walk.first ∷ set.walk.rows) seen (length set.walk.down.rest) (written tables (new_dirs set.walk.down.at.there.row.id.0 view.next.0 user set.walk.down.rest)) more raises.each
-
-  next_made : next_after view.next.0 (new_dirs set.walk.down.at.there.row.id.0 view.next.0 user set.walk.down.rest ++ more) ≡ view.next.0 + length set.walk.down.rest
-  next_made =
-      next_after-append (new_dirs set.walk.down.at.there.row.id.0 view.next.0 user set.walk.down.rest) more view.next.0
-      ∙ next_raised (set.walk.first ∷ set.walk.rows) seen (length set.walk.down.rest) (next_after view.next.0 (new_dirs set.walk.down.at.there.row.id.0 view.next.0 user set.walk.down.rest)) more raises.each
-      ∙ next_dirs set.walk.down.at.there.row.id.0 view.next.0 user set.walk.down.rest
+  counts_then : Counts chained.inodes after.quotas later
+  counts_then =
+      subst (λ (ps : List Path). Counts chained.inodes after.quotas (with_dirs space user ps)) (sym all_missing)
+      (counts_chained tables view.next.0 set.tree tables.quotas after.quotas space set.stands set.names set.counts set.walk.down.dir set.walk.down.at.there.row set.walk.down.at.spelt dir user set.walk.down.rest none
+      (subst (λ (p : Path). IsRecounted tables.inodes p (names_more (length set.walk.down.rest)) tables.quotas after.quotas) (sym (path_is tables view.next.0 space locked seen place set)) recounted))
 
   -- the rows stand for the namespace with the directories
-  rows_of : IsOf (written (written tables (new_dirs set.walk.down.at.there.row.id.0 view.next.0 user set.walk.down.rest)) more) (view.next.0 + length set.walk.down.rest) (with_dirs space user (missing space place.path))
+  rows_of : IsOf after last_id later
   rows_of = record {
-    tree = subst (λ (i : Inodes). IsTree i (view.next.0 + length set.walk.down.rest)) (sym inodes_made) tree_made;
-    stands = subst (λ (i : Inodes). Stands i (written (written tables (new_dirs set.walk.down.at.there.row.id.0 view.next.0 user set.walk.down.rest)) more).quotas [] (with_dirs space user (missing space place.path))) (sym inodes_made)
-        (stands_raised (written tables (new_dirs set.walk.down.at.there.row.id.0 view.next.0 user set.walk.down.rest)).inodes (set.walk.first ∷ set.walk.rows) (length set.walk.down.rest) tables.quotas
-        (written (written tables (new_dirs set.walk.down.at.there.row.id.0 view.next.0 user set.walk.down.rest)) more).quotas (with_dirs space user (missing space place.path)) stands_made quotas_made);
-    counts = subst (λ (i : Inodes). Counts i (written (written tables (new_dirs set.walk.down.at.there.row.id.0 view.next.0 user set.walk.down.rest)) more).quotas (with_dirs space user (missing space place.path))) (sym inodes_made)
-        (counts_made tables view.next.0 space locked seen place set user (written tables (new_dirs set.walk.down.at.there.row.id.0 view.next.0 user set.walk.down.rest)).inodes
-        (written (written tables (new_dirs set.walk.down.at.there.row.id.0 view.next.0 user set.walk.down.rest)) more).quotas
-        (subst (λ (n : ℕ). IsRaisedIn (set.walk.first ∷ set.walk.rows) n tables.quotas (written (written tables (new_dirs set.walk.down.at.there.row.id.0 view.next.0 user set.walk.down.rest)) more).quotas) count quotas_made) stands_made
-        (λ at x there. still_chained set.walk.down.rest tables view.next.0 set.tree set.walk.down.dir set.walk.down.at.there.row user set.walk.down.at.spelt dir (missing_row tables view.next.0 space locked seen place set) (reverse at) x there));
+    tree = subst (λ (i : Inodes). IsTree i last_id) (sym inodes_are) tree_then;
+    stands = subst (λ (i : Inodes). Stands i after.quotas [] later) (sym inodes_are)
+        (stands_recounted tables.inodes place.path (names_more (length set.walk.down.rest)) tables.quotas after.quotas recounted chained.inodes [] later stands_then);
+    counts = subst (λ (i : Inodes). Counts i after.quotas later) (sym inodes_are) counts_then;
   }
 
   -- and have the ids that the history gives
-  ids_of : (numbering : Numbering) (note : Note) → Rattle.commit_log.specs.Ids.move_in space (with_dirs space user (missing space place.path)) note ≡ None → IsNumberedBy numbering tables.inodes view.next.0 space
-      → IsNumberedBy (numbering_after numbering space (with_dirs space user (missing space place.path)) note) (written (written tables (new_dirs set.walk.down.at.there.row.id.0 view.next.0 user set.walk.down.rest)) more).inodes (view.next.0 + length set.walk.down.rest) (with_dirs space user (missing space place.path))
+  ids_of : (numbering : Numbering) (note : Note) → move_in space later note ≡ None → IsNumberedBy numbering tables.inodes view.next.0 space → IsNumberedBy (numbering_after numbering space later note) after.inodes last_id later
   ids_of numbering note still given =
-      let after : numbering_after numbering space (with_dirs space user (missing space place.path)) note ≡ with_new numbering (missing space place.path) =
-      numbering-missing numbering space (with_dirs space user (missing space place.path)) note place.path still given.all (Rises-with_dirs space user (missing space place.path) set.names.rises) added in
-      subst (λ (n : Numbering). IsNumberedBy n (written (written tables (new_dirs set.walk.down.at.there.row.id.0 view.next.0 user set.walk.down.rest)) more).inodes (view.next.0 + length set.walk.down.rest) (with_dirs space user (missing space place.path))) (sym after) (record {
+      let numbers : numbering_after numbering space later note ≡ with_new numbering (missing space place.path) =
+      numbering-missing numbering space later note place.path still given.all (Rises-with_dirs space user (missing space place.path) set.names.rises) added in
+      subst (λ (n : Numbering). IsNumberedBy n after.inodes last_id later) (sym numbers) (record {
         all = λ path. all_new (missing space place.path) numbering path ∙ ap (λ (b : Bool). is_among (missing space place.path) path || b) (given.all path) ∙ sym (there path);
-        given = subst (λ (i : Inodes). AreGiven i (with_new numbering (missing space place.path))) (sym inodes_made)
-            (subst (λ (ps : List Path). AreGiven (written tables (new_dirs set.walk.down.at.there.row.id.0 view.next.0 user set.walk.down.rest)).inodes (with_new numbering ps)) (sym (missing_is tables view.next.0 space locked seen place set))
-            (given_chained set.walk.down.rest tables view.next.0 set.tree set.walk.down.dir set.walk.down.at.there.row user set.walk.down.at.spelt dir (missing_row tables view.next.0 space locked seen place set) numbering (sym given.least) given.given));
-        least = ap (λ (n : ℕ). n + length set.walk.down.rest) given.least ∙ ap (λ (n : ℕ). numbering.next + n) count ∙ sym (next_with_new (missing space place.path) numbering);
+        given = subst (λ (i : Inodes). AreGiven i (with_new numbering (missing space place.path))) (sym inodes_are)
+            (subst (λ (ps : List Path). AreGiven chained.inodes (with_new numbering ps)) (sym all_missing)
+            (given_chained set.walk.down.rest tables view.next.0 set.tree set.walk.down.dir set.walk.down.at.there.row user set.walk.down.at.spelt dir none numbering (sym given.least) given.given));
+        least = let last = next_with_new (missing space place.path) numbering in let many = count in let least = given.least in omega arith;
       })
     where
-      there : (q : Path) → exists (with_dirs space user (missing space place.path)) q ≡ (is_among (missing space place.path) q || exists space q)
+      there : (q : Path) → exists later q ≡ (is_among (missing space place.path) q || exists space q)
       there q = ap is_some (entry_at-with_dirs space user (missing space place.path) q) ∙ exists_made (is_among (missing space place.path) q) (spaces.new_dir user) (entry_at space q)
 
       swapped : (a b : Bool) → ((not a && b) || a) ≡ (a || b)
@@ -222,25 +217,26 @@ module _ (tables : Tables) (space : Namespace) (locked : List (Key × Mode)) (se
       swapped false true = refl
       swapped false false = refl
 
-      added : (q : Path) → exists (with_dirs space user (missing space place.path)) q ≡ (exists space q || is_within q place.path)
+      added : (q : Path) → exists later q ≡ (exists space q || is_within q place.path)
       added q = there q ∙ ap (λ (b : Bool). b || exists space q) (among-missing space place.path q) ∙ swapped (exists space q) (is_within q place.path)
 
   -- an answer that makes the missing directories
-  pub made : (client : ClientNo) (asked : Call) (reply : Reply) (writes : List (Key × Option Row)) → ((old new : Namespace) → move_of old new asked ≡ None) → length set.walk.down.rest ≤ sum_by (λ (p : Path). length p) (paths_of asked)
-      → plain space client user asked ≡ granted (with_dirs space user (missing space place.path)) → as_read reply ≡ (granted (with_dirs space user (missing space place.path))).reply
-      → writes ≡ new_dirs set.walk.down.at.there.row.id.0 view.next.0 user set.walk.down.rest ++ more → IsAnswer tables space client user asked view reply writes
-  made client asked reply writes still few answer reads is =
-      let tables_are : written tables (new_dirs set.walk.down.at.there.row.id.0 view.next.0 user set.walk.down.rest ++ more) ≡ written (written tables (new_dirs set.walk.down.at.there.row.id.0 view.next.0 user set.walk.down.rest)) more = written-append (new_dirs set.walk.down.at.there.row.id.0 view.next.0 user set.walk.down.rest) more tables in
+  pub made : (client : ClientNo) (asked : Call) (reply : Reply) (writes : List (Key × Option Row)) → ((old new : Namespace) → move_of old new asked ≡ None) → changes asked ≡ true → length set.walk.down.rest ≤ sum_by (λ (p : Path). length p) (paths_of asked)
+      → plain space client user asked ≡ granted later → as_read reply ≡ (granted later).reply → writes ≡ dirs ++ more → IsAnswer tables space client user asked view reply writes
+  made client asked reply writes still acts few answer reads is =
+      let tables_are : written tables (dirs ++ more) ≡ after = written-append dirs more tables in
       subst (IsAnswer tables space client user asked view reply) (sym is) (record {
         told = reads ∙ sym (ap (λ (a : Answered). a.reply) answer);
-        rows = subst (IsOf (written tables (new_dirs set.walk.down.at.there.row.id.0 view.next.0 user set.walk.down.rest ++ more)) (next_after view.next.0 (new_dirs set.walk.down.at.there.row.id.0 view.next.0 user set.walk.down.rest ++ more))) (sym (ap (λ (a : Answered). a.space) answer))
-            (subst (λ (n : ℕ). IsOf (written tables (new_dirs set.walk.down.at.there.row.id.0 view.next.0 user set.walk.down.rest ++ more)) n (with_dirs space user (missing space place.path))) (sym next_made)
-            (subst (λ (t : Tables). IsOf t (view.next.0 + length set.walk.down.rest) (with_dirs space user (missing space place.path))) (sym tables_are) rows_of));
-        flags = λ unflagged. subst (λ (t : Tables). IsUnflagged t.inodes) (sym tables_are) (subst IsUnflagged (sym inodes_made) (unflagged_dirs set.walk.down.rest tables set.walk.down.at.there.row.id.0 view.next.0 user unflagged));
-        few = let past = next_made in omega arith;
-        ids = subst (AreIds tables view.next.0 (written tables (new_dirs set.walk.down.at.there.row.id.0 view.next.0 user set.walk.down.rest ++ more)) (next_after view.next.0 (new_dirs set.walk.down.at.there.row.id.0 view.next.0 user set.walk.down.rest ++ more)) space client asked) (sym answer)
+        quiet = λ exception refused. (let bad : Truth true ≡ Refused exception = sym reads ∙ ap as_read refused in cc);
+        looks = λ same. (let bad : true ≡ false = sym acts ∙ same in cc);
+        rows = subst (IsOf (written tables (dirs ++ more)) (next_after view.next.0 (dirs ++ more))) (sym (ap (λ (a : Answered). a.space) answer))
+            (subst (λ (n : ℕ). IsOf (written tables (dirs ++ more)) n later) (sym next_is) (subst (λ (t : Tables). IsOf t last_id later) (sym tables_are) rows_of));
+        flags = λ k some. ap (λ (t : Tables). flag_at t.inodes k) tables_are ∙ ap (λ (inodes : Inodes). flag_at inodes k) inodes_are
+            ∙ flags_chained set.walk.down.rest tables view.next.0 set.tree set.walk.down.dir set.walk.down.at.there.row user set.walk.down.at.spelt dir none k;
+        few = let past = next_is in omega arith;
+        ids = subst (AreIds tables view.next.0 (written tables (dirs ++ more)) (next_after view.next.0 (dirs ++ more)) space client asked) (sym answer)
             (λ numbering s number times answered given.
-            subst (λ (n : ℕ). IsNumberedBy (numbering_after numbering space (with_dirs space user (missing space place.path)) (Did s client number asked times answered)) (written tables (new_dirs set.walk.down.at.there.row.id.0 view.next.0 user set.walk.down.rest ++ more)).inodes n (with_dirs space user (missing space place.path))) (sym next_made)
-            (subst (λ (t : Tables). IsNumberedBy (numbering_after numbering space (with_dirs space user (missing space place.path)) (Did s client number asked times answered)) t.inodes (view.next.0 + length set.walk.down.rest) (with_dirs space user (missing space place.path))) (sym tables_are)
-            (ids_of numbering (Did s client number asked times answered) (still space (with_dirs space user (missing space place.path))) given)));
+            subst (λ (n : ℕ). IsNumberedBy (numbering_after numbering space later (Did s client number asked times answered)) (written tables (dirs ++ more)).inodes n later) (sym next_is)
+            (subst (λ (t : Tables). IsNumberedBy (numbering_after numbering space later (Did s client number asked times answered)) t.inodes last_id later) (sym tables_are)
+            (ids_of numbering (Did s client number asked times answered) (still space later) given)));
       })

@@ -20,7 +20,7 @@ use Rattle.db_state.specs.Spelled.{Inodes, child_of, spelled, IsTree}
 use Rattle.db_state.specs.Current.{stops_at, Leads, IsThere, IsMissing}
 use Rattle.db_state.specs.PathLaws.{injective, same_id}
 use Rattle.db_state.specs.ChainLaws.{reverse-push}
-use Rattle.inode_ops.specs.Steps.{has_id}
+use Rattle.inode_ops.specs.QuotaSteps.{has_id}
 
 -- the row found stands at the end of these names, the last of them first
 pub record IsAt (inodes : Inodes) (locked : List (Key × Mode)) (up : List (List ℕ)) (found : Key × Inode) : Type 0 where

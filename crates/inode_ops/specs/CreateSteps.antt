@@ -15,8 +15,9 @@ use Rattle.db_state.specs.declared.outcome.Outcome.TheVariants.{Answer, Subtree}
 use Rattle.db_state.specs.declared.writes.Row.TheVariants as row
 use Rattle.db_state.specs.NewFile.{new_file_rows}
 use Rattle.db_state.specs.Plan.{last_found, deepest, is_whole}
-use Rattle.inode_ops.specs.Steps.{first_full, missing_names, GoesOnRaised, IsRefused}
-use Rattle.inode_ops.specs.LowerSteps.{GoesOnLowered}
+use Rattle.db_state.specs.QuotaWrites.{raised, lowered}
+use Rattle.inode_ops.specs.QuotaSteps.{first_full, GoesOnCounted}
+use Rattle.inode_ops.specs.Steps.{missing_names, IsRefused}
 
 -- the file without bytes, written by this client and owned by this user
 abbrev pub overwritten : ClientNo → List ℕ → Inode → Inode
@@ -27,7 +28,7 @@ overwritten client owner file = record file { len = 0; writer = Some client; mod
 abbrev pub IsFiled : Inode → Place → View → ClientNo → List ℕ → List (List ℕ) → Outcome → Type 0
 IsFiled last place view client owner names (Answer reply writes) =
     (reply ≡ Truth true) × (ups : List (List ℕ)) × (name : List ℕ) × (names ≡ ups ++ name ∷ [])
-    × GoesOnRaised (new_file_rows last.id.0 view.next.0 owner ups name client) place.found.items view.quotas.items (length names) writes.items
+    × GoesOnCounted (new_file_rows last.id.0 view.next.0 owner ups name client) place.found.items view.quotas.items (raised (length names) 0) writes.items
 IsFiled last place view client owner names (Subtree kind) = ⊥
 
 -- it is, unless there is no room
@@ -43,7 +44,7 @@ MakesFile last place view client owner outcome =
 -- this file is overwritten, and the quota rows above are lowered by its bytes
 abbrev pub IsOverwritten : Key × Inode → Place → View → ClientNo → List ℕ → Outcome → Type 0
 IsOverwritten found place view client owner (Answer reply writes) =
-    (reply ≡ Truth true) × GoesOnLowered ((found.0, Some (row.Inode (overwritten client owner found.1))) ∷ []) place.found.items view.quotas.items 0 found.1.len writes.items
+    (reply ≡ Truth true) × GoesOnCounted ((found.0, Some (row.Inode (overwritten client owner found.1))) ∷ []) place.found.items view.quotas.items (lowered 0 found.1.len) writes.items
 IsOverwritten found place view client owner (Subtree kind) = ⊥
 
 -- so is the file found last

@@ -14,7 +14,8 @@ use Rattle.db_state.specs.declared.outcome.Outcome.{Outcome}
 use Rattle.db_state.specs.declared.outcome.Outcome.TheVariants.{Answer, Subtree}
 use Rattle.db_state.specs.declared.writes.Row.{Row}
 use Rattle.db_state.specs.Plan.{where_so, last_found, is_whole}
-use Rattle.inode_ops.specs.LowerSteps.{GoesOnLowered}
+use Rattle.db_state.specs.QuotaWrites.{lowered}
+use Rattle.inode_ops.specs.QuotaSteps.{GoesOnCounted}
 use Rattle.inode_ops.specs.Steps.{IsTold, IsRefused}
 
 -- ---- the row that goes
@@ -26,7 +27,7 @@ removals found = (found.0, None) ∷ where_so found.1.has_quota ((key.Quota foun
 -- the last row found goes, and the quota rows of the directories above it count it no more
 abbrev pub RemovesLast : Place → List (InodeId × QuotaRow) → List (Key × Option Row) → Type 0
 RemovesLast place seen writes =
-    IfSome (last_found place) (λ (last : Key × Inode). GoesOnLowered (removals last) (take (length place.found.items - 1) place.found.items) seen 1 (counted_bytes last.1.kind last.1) writes)
+    IfSome (last_found place) (λ (last : Key × Inode). GoesOnCounted (removals last) (take (length place.found.items - 1) place.found.items) seen (lowered 1 (counted_bytes last.1.kind last.1)) writes)
 
 -- ---- the outcome
 

@@ -1,7 +1,7 @@
 pub mod ChmodSteps
 pub mod CreateSteps
 pub mod DeleteSteps
-pub mod LowerSteps
 pub mod Outcomes
+pub mod QuotaSteps
 pub mod Steps
 pub mod Table

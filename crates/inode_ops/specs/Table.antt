@@ -1,14 +1,16 @@
 -- When an outcome is what the calls table says, on every table of rows that its view may have been read of. This
 -- project's own.
-use Rattle.std.specs.Prelude.{◌≡◌, ◌≤◌, ◌+◌, ℕ, List, [], length, Option, is_some}
+use Rattle.std.specs.Prelude.{◌≡◌, ◌≤◌, ◌+◌, ℕ, false, List, [], length, Option, is_some}
 use Rattle.std.specs.List.{sum_by}
 use Rattle.hops_base.specs.declared.ids.ClientNo.{ClientNo}
 use Rattle.hops_base.specs.declared.ids.SessionId.{SessionId}
 use Rattle.hops_base.specs.declared.ids.OpId.{OpId}
 use Rattle.hops_base.specs.declared.key.Key.{Key}
 use Rattle.name_space.specs.declared.call.Call.{Call}
-use Rattle.name_space.specs.Call.{paths_of}
+use Rattle.name_space.specs.Call.{paths_of, changes}
+use Rattle.name_space.specs.declared.reply.Exception.{Exception}
 use Rattle.name_space.specs.declared.reply.Reply.{Reply}
+use Rattle.name_space.specs.declared.reply.Reply.TheVariants.{Refused}
 use Rattle.name_space.specs.Namespace.{Namespace, Path, IsNamespace, exists}
 use Rattle.name_space.specs.Plain.{Answered}
 use Rattle.name_space.specs.Calls.{plain, as_read}
@@ -17,7 +19,7 @@ use Rattle.commit_log.specs.Ids.{Numbering, id_at, numbering_after}
 use Rattle.db_state.specs.State.{Inodes, Tables}
 use Rattle.db_state.specs.Spelled.{IsTree, AreGiven}
 use Rattle.db_state.specs.Stands.{Stands}
-use Rattle.db_state.specs.Consistent.{IsUnflagged}
+use Rattle.db_state.specs.Consistent.{FlagsStay}
 use Rattle.db_state.specs.Counts.{Counts}
 use Rattle.db_state.specs.Current.{IsCurrent}
 use Rattle.db_state.specs.Written.{written, next_after}
@@ -53,12 +55,15 @@ AreIds old next new next' space client call answered =
     (numbering : Numbering) (s : SessionId) (number reads : ℕ) (reply : Reply) → IsNumberedBy numbering old.inodes next space
     → IsNumberedBy (numbering_after numbering space answered.space (Did s client number call reads reply)) new.inodes next' answered.space
 
--- the reply is the plain call's; the rows with those written stand for the namespace after it; no flag is set; and they have the ids
--- that the history gives, of which it takes no more than the call's paths have names
+-- the reply is the plain call's; a refusal and a call that only looks write nothing; the rows with those written stand for the namespace
+-- after it, and bear the flags that they bore; and they have the ids that the history gives, of which it takes no more than the call's
+-- paths have names
 pub record IsAnswer (tables : Tables) (space : Namespace) (client : ClientNo) (user : List ℕ) (call : Call) (view : View) (reply : Reply) (writes : List (Key × Option Row)) : Type 0 where
   pub told : as_read reply ≡ (plain space client user call).reply
+  pub quiet : (exception : Exception) → reply ≡ Refused exception → writes ≡ []
+  pub looks : changes call ≡ false → writes ≡ []
   pub rows : IsOf (written tables writes) (next_after view.next.0 writes) (plain space client user call).space
-  pub flags : IsUnflagged tables.inodes → IsUnflagged (written tables writes).inodes
+  pub flags : FlagsStay tables.inodes (written tables writes).inodes
   pub few : next_after view.next.0 writes ≤ view.next.0 + sum_by length (paths_of call)
   pub ids : AreIds tables view.next.0 (written tables writes) (next_after view.next.0 writes) space client call (plain space client user call)
 

@@ -10,7 +10,7 @@ ghost use Rattle.inode_ops.specs.Table.{IsCallsTable};
 
 use crate::directories::new_dirs;
 use crate::place::{deepest, is_whole, last_found, only_place};
-use crate::quotas::{first_full, lower, raise};
+use crate::quotas::{Change, first_full, recount};
 use crate::told::refused;
 use db_state::{Outcome, Place, Row, View, Writes};
 use hops_base::{ClientNo, InodeId, Key, Name, NoMemory, Path, User};
@@ -86,7 +86,8 @@ fn make_file(
         unreachable!()
     };
     let mut writes = new_file_rows(alloc, last.id, view.next, user, above, name, client)?;
-    raise(&mut writes, place.found.as_slice(), quotas, count)?;
+    let more = Change::More(count, 0);
+    recount(&mut writes, place.found.as_slice(), quotas, more)?;
     Ok(Outcome::Answer(Reply::Truth(true), writes))
 }
 
@@ -157,7 +158,8 @@ fn overwrite_file(
     let row = overwritten(file, client, user)?;
     writes.push((key.copy()?, Some(Row::Inode(row))));
     let quotas = view.quotas.as_slice();
-    lower(&mut writes, place.found.as_slice(), quotas, 0, file.len)?;
+    let less = Change::Less(0, file.len);
+    recount(&mut writes, place.found.as_slice(), quotas, less)?;
     Ok(Outcome::Answer(Reply::Truth(true), writes))
 }
 

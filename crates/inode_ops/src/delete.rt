@@ -10,7 +10,7 @@ ghost use Rattle.inode_ops.specs.Outcomes.{IsViewOf};
 ghost use Rattle.inode_ops.specs.Table.{IsCallsTable};
 
 use crate::place::{is_whole, only_place};
-use crate::quotas::lower;
+use crate::quotas::{Change, recount};
 use crate::told::{refused, told};
 use db_state::{Outcome, Place, View, Writes};
 use hops_base::{InodeId, Key, NoMemory, Path};
@@ -62,6 +62,6 @@ fn removal(alloc: Global, place: &Place, quotas: &[(InodeId, QuotaRow)]) -> Resu
     if row.has_quota {
         writes.push((Key::Quota(row.id), None));
     }
-    lower(&mut writes, above, quotas, 1, row.bytes())?;
+    recount(&mut writes, above, quotas, Change::Less(1, row.bytes()))?;
     Ok(writes)
 }

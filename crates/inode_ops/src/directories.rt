@@ -7,7 +7,7 @@ ghost use Rattle.inode_ops.specs.Outcomes.{CanMake, CanRaise};
 ghost use Rattle.inode_ops.specs.Steps.{AnswersMkdirs, MakesMissing};
 
 use crate::place::{deepest, is_whole};
-use crate::quotas::{first_full, raise};
+use crate::quotas::{Change, first_full, recount};
 use crate::told::{refused, told};
 use db_state::{Outcome, Place, Row, Writes};
 use hops_base::{InodeId, Key, Name, NoMemory, User};
@@ -59,7 +59,8 @@ fn make_missing(
         return refused(alloc, exception);
     }
     let mut writes = new_dirs(alloc, last.id, next, user, missing)?;
-    raise(&mut writes, place.found.as_slice(), quotas, count)?;
+    let more = Change::More(count, 0);
+    recount(&mut writes, place.found.as_slice(), quotas, more)?;
     Ok(Outcome::Answer(Reply::Truth(true), writes))
 }
 

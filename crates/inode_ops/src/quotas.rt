@@ -5,10 +5,8 @@ ghost use Rattle.hops_base.specs.declared.key.Key.{Key};
 ghost use Rattle.hops_base.specs.declared.key.Key.TheVariants as key;
 ghost use Rattle.inode_table.specs.declared.inode.Inode.{Inode};
 ghost use Rattle.name_space.specs.Namespace.{Path};
-ghost use Rattle.db_state.specs.QuotaWrites.{quota_writes, lowered};
-ghost use Rattle.inode_ops.specs.LowerSteps.{quota_left, GoesOnLowered};
-ghost use Rattle.inode_ops.specs.Outcomes.{CanRaise};
-ghost use Rattle.inode_ops.specs.Steps.{quota_in, full_at, first_full, refusal, row_raised, is_written, GoesOnRaised, HasNoQuotas};
+ghost use Rattle.db_state.specs.QuotaWrites.{quota_writes};
+ghost use Rattle.inode_ops.specs.QuotaSteps.{quota_in, full_at, first_full, refusal, counted, is_written, quota_left, CanCountIn, CanCount, GoesOnCounted};
 
 use db_state::{Place, Row, Writes};
 use hops_base::{InodeId, Key, Name, NoMemory, Path};
@@ -102,78 +100,63 @@ fn path_of(alloc: Global, names: &[Name]) -> Result<Path, NoMemory>
     Ok(path)
 }
 
-/// Adds to the writes, which have no quota rows yet, the quota row of each row that has one, with so many
-/// names more in use.
-pub fn raise(
+/// What comes or goes below a directory: so many names, and so many bytes.
+#[derive(Clone, Copy)]
+pub enum Change {
+    /// So much more is in use.
+    More(u64, u64),
+    /// So much less.
+    Less(u64, u64),
+}
+
+impl Change {
+    // The quota row with the change counted.
+    fn counted(self, quota: QuotaRow) -> QuotaRow
+        requires { CanCountIn self quota }
+        ensures { result ≡ counted self quota }
+    {
+        let mut quota = quota;
+        match self {
+            Change::More(names, bytes) => quota.add(names, bytes),
+            Change::Less(names, bytes) => {
+                quota.used_names = quota.used_names.saturating_sub(names);
+                quota.used_bytes = quota.used_bytes.saturating_sub(bytes);
+            }
+        }
+        quota
+    }
+}
+
+/// Adds to the writes the quota row of each directory found that has one, unless it is written already, with
+/// the change counted.
+pub fn recount(
     writes: &mut Writes,
     found: &[(Key, Inode)],
     quotas: &[(InodeId, QuotaRow)],
-    names: u64,
+    change: Change,
 ) -> Result<(), NoMemory>
-    requires new { HasNoQuotas writes.old.items }
-    requires raise { CanRaise names quotas.now }
-    ensures { OnOk result (GoesOnRaised writes.old.items found.now quotas.now names writes.new.items) }
+    requires { CanCount change quotas.now }
+    ensures { OnOk result (GoesOnCounted writes.old.items found.now quotas.now (counted change) writes.new.items) }
 {
     writes.reserve(found.len() as u64)?;
     for (_, row) in found {
-        raise_row(writes, quotas, row.id, names);
+        recount_row(writes, quotas, row.id, change);
     }
     Ok(())
 }
 
-// Adds the quota row of this directory, unless it has none or was written.
-fn raise_row(writes: &mut Writes, quotas: &[(InodeId, QuotaRow)], id: InodeId, names: u64)
+// Adds the quota row of this directory with the change counted, unless it has none or was written.
+fn recount_row(writes: &mut Writes, quotas: &[(InodeId, QuotaRow)], id: InodeId, change: Change)
     requires room { length writes.old.items < writes.old.room }
-    requires raise { CanRaise names quotas.now }
-    ensures { writes.new ≡ record writes.old { items = writes.old.items ++ row_raised names id (quota_in quotas.now id) (is_written writes.old.items (key.Quota id)) } }
+    requires count { CanCount change quotas.now }
+    ensures { writes.new ≡ record writes.old { items = writes.old.items ++ quota_writes (counted change) (quota_left id (quota_in quotas.now id) (is_written writes.old.items (key.Quota id))) } }
 {
-    let Some(mut quota) = quota_in(quotas, id) else {
+    let Some(quota) = quota_in(quotas, id) else {
         return;
     };
     let key = Key::Quota(id);
     if !is_written(writes.as_slice(), &key) {
-        quota.add(names, 0);
-        writes.push((key, Some(Row::Quota(quota))));
-    }
-}
-
-/// Adds to the writes the quota row of each row that has one, unless it is written already, with so many
-/// names and bytes less in use.
-pub fn lower(
-    writes: &mut Writes,
-    found: &[(Key, Inode)],
-    quotas: &[(InodeId, QuotaRow)],
-    names: u64,
-    bytes: u64,
-) -> Result<(), NoMemory>
-    ensures { OnOk result (GoesOnLowered writes.old.items found.now quotas.now names bytes writes.new.items) }
-{
-    writes.reserve(found.len() as u64)?;
-    for (_, row) in found {
-        lower_row(writes, quotas, row.id, names, bytes);
-    }
-    Ok(())
-}
-
-// Adds the quota row of this directory, unless it has none or was written.
-fn lower_row(
-    writes: &mut Writes,
-    quotas: &[(InodeId, QuotaRow)],
-    id: InodeId,
-    names: u64,
-    bytes: u64,
-)
-    requires { length writes.old.items < writes.old.room }
-    ensures { writes.new ≡ record writes.old { items = writes.old.items ++ quota_writes (lowered names bytes) (quota_left id (quota_in quotas.now id) (is_written writes.old.items (key.Quota id))) } }
-{
-    let Some(mut quota) = quota_in(quotas, id) else {
-        return;
-    };
-    let key = Key::Quota(id);
-    if !is_written(writes.as_slice(), &key) {
-        quota.used_names = quota.used_names.saturating_sub(names);
-        quota.used_bytes = quota.used_bytes.saturating_sub(bytes);
-        writes.push((key, Some(Row::Quota(quota))));
+        writes.push((key, Some(Row::Quota(change.counted(quota)))));
     }
 }
 

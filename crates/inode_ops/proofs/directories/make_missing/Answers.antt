@@ -1,6 +1,7 @@
-use Rattle.std.proofs.Common.{◌≡◌, ℕ, ◌-◌, ◌≤◌, List, length, take, drop, length-take, length-drop, sym, ap, subst, ◌∙◌, arith}
-use Rattle.inode_ops.specs.Steps.{HasNoQuotas, first_full, missing_names}
-use Rattle.inode_ops.proofs.MissingLemmas.{dirs_new, can_fewer, rest_is, refused_full}
+use Rattle.std.proofs.Common.{◌≡◌, ℕ, ◌-◌, ◌≤◌, List, length, take, drop, length-take, length-drop, sym, ap, ◌∙◌, arith}
+use Rattle.inode_ops.specs.QuotaSteps.{first_full}
+use Rattle.inode_ops.specs.Steps.{missing_names}
+use Rattle.inode_ops.proofs.MissingLemmas.{can_fewer, rest_is, refused_full}
 use Rattle.inode_ops.proofs.directories.make_missing.Goals as goal
 
 pub returns-in-Some : goal.returns-in-Some
@@ -9,10 +10,7 @@ returns-in-Some c =
     refused_full _ c.in-Some.exception c.args.last.now c.args.place.now c.args.quotas.now c.args.next.0 c.args.user.now (missing_names c.args.place.now) c.refused.result
     (ap (λ (names : List (List ℕ)). first_full c.args.place.now.path c.args.place.now.found.items c.args.quotas.now (length names)) (sym rest) ∙ sym c.in_ok-exception.ensures ∙ c.in-Some.is) c.refused.ensures
 
-pub raise-requires-clause-new : goal.raise-requires-clause-new
-raise-requires-clause-new c = subst HasNoQuotas (sym c.in_ok-writes.ensures) (dirs_new c.args.last.now.id.0 c.args.next.0 c.args.user.now (take (length c.names.result.now - (c.len.result - 1)) (drop (c.len.result - 1) c.names.result.now)))
-
-pub raise-requires-clause-raise : goal.raise-requires-clause-raise
-raise-requires-clause-raise c =
+pub recount-requires : goal.recount-requires
+recount-requires c =
     let few : length (take (length c.names.result.now - (c.len.result - 1)) (drop (c.len.result - 1) c.names.result.now)) ≤ length c.args.place.now.path = rw (length-take, length-drop, c.names.ensures.names) (omega arith) in
     can_fewer (length (take (length c.names.result.now - (c.len.result - 1)) (drop (c.len.result - 1) c.names.result.now))) (length c.args.place.now.path) c.args.quotas.now few c.requires.raise

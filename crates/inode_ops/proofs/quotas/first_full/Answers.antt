@@ -5,7 +5,7 @@ use Rattle.inode_table.specs.declared.inode.Inode.{Inode}
 use Rattle.name_space.specs.declared.reply.Exception.{Exception}
 use Rattle.name_space.specs.Namespace.{Path, above}
 use Rattle.name_space.specs.Quota.{first_some}
-use Rattle.inode_ops.specs.Steps.{full_at, quota_in}
+use Rattle.inode_ops.specs.QuotaSteps.{full_at, quota_in}
 use Rattle.inode_ops.proofs.QuotaLemmas.{full_next, full_end}
 use Rattle.inode_ops.proofs.quotas.first_full.Goals as goal
 

@@ -3,7 +3,7 @@ use Rattle.hops_base.specs.declared.key.Key.{Key}
 use Rattle.inode_table.specs.declared.inode.Inode.{Inode}
 use Rattle.name_space.specs.Namespace.{Path, above}
 use Rattle.name_space.specs.Quota.{first_some}
-use Rattle.inode_ops.specs.Steps.{full_at, quota_in, first_full}
+use Rattle.inode_ops.specs.QuotaSteps.{full_at, quota_in, first_full}
 use Rattle.inode_ops.proofs.quotas.first_full.Given as goal
 
 abbrev pub invariant-loop-i : goal.invariant-loop-i

@@ -2,12 +2,12 @@ use Rattle.std.proofs.Common.{Option, List, sym, ap, ◌∙◌}
 use Rattle.hops_base.specs.declared.key.Key.{Key}
 use Rattle.hops_base.specs.declared.key.Key.TheVariants as key
 use Rattle.db_state.specs.declared.writes.Row.{Row}
-use Rattle.inode_ops.specs.Steps.{is_written}
-use Rattle.inode_ops.proofs.RaisingLemmas.{can_raise, any_key}
-use Rattle.inode_ops.proofs.quotas.raise_row.Goals as goal
+use Rattle.inode_ops.specs.QuotaSteps.{is_written}
+use Rattle.inode_ops.proofs.CountLemmas.{can_count, any_key}
+use Rattle.inode_ops.proofs.quotas.recount_row.Goals as goal
 
-pub add-requires-clause-names : goal.add-requires-clause-names
-add-requires-clause-names c = can_raise c.args.names c.args.quotas.now c.args.id c.in-Some.quota c.requires.raise (sym c.quota_in.ensures ∙ c.in-Some.is)
+pub counted-requires : goal.counted-requires
+counted-requires c = can_count c.args.change c.args.quotas.now c.args.id c.in-Some.quota c.requires.count (sym c.quota_in.ensures ∙ c.in-Some.is)
 
 pub push-requires-clause-new : goal.push-requires-clause-new
 push-requires-clause-new c =
