@@ -1,31 +1,24 @@
 #!/bin/sh
-# Runs a script once for each allocation, with that one failing. Each run must end with status 7 and write a front of
-# the report, or end with status 0 and write all of it. Usage: tools/fail_alloc.sh [SCRIPT]
+# Runs a script once for each allocation, with that one failing, until no more is made. Each run must end with status 7
+# and write a front of the report, or, where less is asked for in its place, end with status 0 and write all of it.
+# Usage: tools/fail_alloc.sh [SCRIPT]
 
-top=$(cd "$(dirname "$0")/.." && pwd) || exit 1
-script=${1:-$top/examples/first_script.json}
-work=$(mktemp -d) || exit 1
-trap 'rm -rf "$work"' EXIT
-cc -shared -fPIC -O1 -o "$work/fail.so" "$top/tools/fail_alloc.c" -ldl || exit 1
-"$top/hops" run <"$script" >"$work/whole" || exit 1
+library=fail_alloc
+. "$(dirname "$0")/set_up.sh"
 
-number=1
+number=0
+last=0
 refused=0
-while :; do
-    FAIL_ALLOC=$number LD_PRELOAD=$work/fail.so "$top/crates/hops_cli/out/hops_cli" run <"$script" >"$work/part" 2>/dev/null
+while [ $((number - last)) -lt 50 ]; do
+    number=$((number + 1))
+    FAIL_ALLOC=$number LD_PRELOAD=$work/fail.so "$program" run <"$script" >"$work/part" 2>/dev/null
     status=$?
     case $status in
         0) cmp -s "$work/part" "$work/whole" || { echo "allocation $number: status 0 and another report"; exit 1; } ;;
         7) head -c "$(wc -c <"$work/part")" "$work/whole" | cmp -s - "$work/part" || { echo "allocation $number: no front of the report"; exit 1; }
+           last=$number
            refused=$((refused + 1)) ;;
         *) echo "allocation $number: status $status"; exit 1 ;;
     esac
-    if [ $status -eq 0 ]; then
-        calm=$((${calm:-0} + 1))
-        [ "$calm" -ge 50 ] && break
-    else
-        calm=0
-    fi
-    number=$((number + 1))
 done
-echo "allocations that failed in turn: $refused, each answered with status 7"
+echo "allocations that failed in turn: $last, of which $refused ended with status 7, and the others with the whole report"

@@ -3,19 +3,15 @@
 # with that one failing. A failed read must end with status 4 and write nothing, a failed write with status 5 and a front
 # of the report, all else with status 0 and all of it. Usage: tools/fail_io.sh [SCRIPT]
 
-top=$(cd "$(dirname "$0")/.." && pwd) || exit 1
-script=${1:-$top/examples/first_script.json}
-work=$(mktemp -d) || exit 1
-trap 'rm -rf "$work"' EXIT
-cc -shared -fPIC -O1 -o "$work/fail.so" "$top/tools/fail_io.c" -ldl || exit 1
-"$top/hops" run <"$script" >"$work/whole" || exit 1
+library=fail_io
+. "$(dirname "$0")/set_up.sh"
 
 # Tries each number in turn until nothing fails. The first word is the variable that names the call, the second the
 # status that must follow, the third what the calls are.
 try_each() {
     number=1
     while :; do
-        env "$1=$number" "PIECE=$piece" "LD_PRELOAD=$work/fail.so" "$top/crates/hops_cli/out/hops_cli" run <"$script" >"$work/part" 2>"$work/said"
+        env "$1=$number" "PIECE=$piece" "LD_PRELOAD=$work/fail.so" "$program" run <"$script" >"$work/part" 2>"$work/said"
         status=$?
         [ $status -eq 0 ] && break
         [ $status -eq "$2" ] || { echo "$1 $number, pieces of $piece: status $status"; exit 1; }

@@ -1,5 +1,5 @@
 -- The rows of new directories and of a new file below them.
-use Rattle.std.proofs.Common.{◌≡◌, ◌≢◌, ℕ, ◌+◌, ◌-◌, ◌<◌, ◌≤◌, Bool, true, false, ◌||◌, nat_lt, List, [], ◌∷◌, ◌++◌, length, slice_get, codes, Option, Some, Result, IfOk, refl, ap, sym, subst, ◌∙◌, arith, inl, inr}
+use Rattle.std.proofs.Common.{◌≡◌, ◌≢◌, ℕ, ◌+◌, ◌-◌, ◌<◌, ◌≤◌, Bool, true, false, ◌||◌, nat_lt, List, [], ◌∷◌, ◌++◌, length, Option, Some, Result, IfOk, refl, ap, sym, subst, ◌∙◌, arith, inl, inr}
 use Rattle.std.proofs.lemmas.Bool.Decides.{nat_tests}
 use Rattle.std.specs.List.{list_all, list_any}
 use Rattle.std.specs.Map.{keys_of}
@@ -11,8 +11,6 @@ use Rattle.hops_base.specs.declared.ids.ClientNo.{ClientNo}
 use Rattle.hops_base.specs.declared.ids.InodeId.{InodeId}
 use Rattle.inode_table.specs.declared.inode.Inode.{Inode}
 use Rattle.db_state.specs.declared.view.Place.{Place}
-use Rattle.db_state.specs.Current.{Leads, Spells, SpellsPlace}
-use Rattle.db_state.specs.Plan.{last_found}
 use Rattle.db_state.specs.PathLaws.{same_id}
 use Rattle.db_state.specs.FileLaws.{new_file_rows-last}
 use Rattle.db_state.specs.declared.writes.Row.TheVariants as row
@@ -81,25 +79,6 @@ row_new parent name at made writes is are id =
     ap (λ (ws : List (Key × Option Row)). list_any (same_key (key.Quota id)) (keys_of ws)) are
     ∙ ap (λ (k : Key). same_key (key.Quota id) k || false) is
     ∙ ap (λ (b : Bool). b || false) (other_key id parent name)
-
--- the last row found stands under an inode's key
-abbrev pub IsInodeKey : Key → Type 0
-IsInodeKey at = (parent : InodeId) × (name : List ℕ) × (at ≡ key.Inode parent name)
-
-leads_last : (rows : List (Key × Inode)) (names : List (List ℕ)) (first found : Key × Inode) (missing : Option Key) → IsInodeKey first.0 → Leads first.1 names rows missing → slice_get (first ∷ rows) (length rows) ≡ Some found → IsInodeKey found.0
-leads_last [] names first found missing at leads is = let same : first ≡ found = cc in subst (λ (r : Key × Inode). IsInodeKey r.0) same at
-leads_last (next ∷ rows) [] first found missing at leads is = absurd (let bad : next ∷ rows ≡ [] = leads.0 in cc)
-leads_last (next ∷ rows) (name ∷ names) first found missing at leads is = leads_last rows names next found missing (first.1.id, name, leads.1) leads.2 is
-
-pub last_inode : (place : Place) (found : Key × Inode) → SpellsPlace place → last_found place ≡ Some found → IsInodeKey found.0
-last_inode place found spells is = go place.found.items refl spells
-  where
-    go : (items : List (Key × Inode)) → place.found.items ≡ items → Spells place.path items place.missing → IsInodeKey found.0
-    go [] same spells = absurd spells
-    go (first ∷ rows) same spells =
-        let end : length (first ∷ rows) - 1 ≡ length rows = omega arith in
-        leads_last rows place.path first found place.missing (record { 0 = 0 }, codes "root", spells.0) spells.1
-        (ap (slice_get (first ∷ rows)) (sym end) ∙ ap (λ (rs : List (Key × Inode)). slice_get rs (length rs - 1)) (sym same) ∙ is)
 
 -- a refusal for want of room
 pub refused_file : (full : Option Exception) (exception : Exception) (last : Inode) (place : Place) (view : View) (client : ClientNo) (owner : List ℕ) (names : List (List ℕ)) (r : Result Outcome NoMemory)

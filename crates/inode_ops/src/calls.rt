@@ -17,7 +17,7 @@ use name_space::Call;
 use std::alloc::Global;
 
 /// What the call of this client and user does on the namespace of which the view was read: the reply, and
-/// the rows to write, which are none where the call is refused. It writes nothing itself, and its one error
+/// the rows to write, which are none where the call is refused or only looks. It writes nothing itself, and its one error
 /// is want of memory.
 pub fn outcome(
     alloc: Global,
