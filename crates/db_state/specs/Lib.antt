@@ -11,6 +11,7 @@ pub mod FlagLaws
 pub mod GrowthLaws
 pub mod LimitLaws
 pub mod ListLaws
+pub mod Locked
 pub mod NewDirs
 pub mod NewFile
 pub mod NumberLaws

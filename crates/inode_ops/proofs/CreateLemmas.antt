@@ -1,5 +1,5 @@
 -- The outcome of `create` against the calls table, by what stands on its path.
-use Rattle.std.proofs.Common.{◌≡◌, ℕ, ◌+◌, Bool, true, false, ◌||◌, List, [], ◌∷◌, ◌++◌, map as list_map, length, reverse, slice_get, Option, Some, None, IfSome, option_map, option_to_list, Result, Ok, Err, IfOk, arith, refl, sym, ap, subst, ◌∙◌, inl, inr, length-append}
+use Rattle.std.proofs.Common.{◌≡◌, ℕ, ◌+◌, Bool, true, false, List, [], ◌∷◌, ◌++◌, length, reverse, slice_get, Option, Some, None, IfSome, option_map, Result, Ok, Err, IfOk, arith, refl, sym, ap, subst, ◌∙◌, length-append}
 use Rattle.std.proofs.lemmas.Bool.{or_left, or_right}
 use Rattle.std.proofs.lemmas.List.Folds.{list_any-append}
 use Rattle.std.specs.List.{AllByRecursion, list_any}
@@ -12,7 +12,6 @@ use Rattle.hops_base.specs.declared.key.Key.{Key}
 use Rattle.hops_base.specs.declared.key.Key.TheVariants as key
 use Rattle.hops_base.specs.declared.memory.NoMemory.{NoMemory}
 use Rattle.hops_base.specs.Key.{same_key}
-use Rattle.hops_base.specs.Tells.{keys_tell}
 use Rattle.name_space.specs.declared.call.Call.TheVariants as call
 use Rattle.name_space.specs.declared.call.OpKind.{OpKind}
 use Rattle.name_space.specs.declared.reply.Reply.{Reply}
@@ -51,6 +50,7 @@ use Rattle.inode_ops.proofs.FileRowLemmas.{file_new, row_new}
 use Rattle.inode_ops.proofs.FiledLemmas.{filed_answer}
 use Rattle.inode_ops.proofs.OverwriteLemmas.{overwritten_answer}
 use Rattle.inode_ops.proofs.OutcomeLemmas.{set_of, locked_in, locked_more, file_of, dir_of, row_kind, whole_entry, partial_entry, kept, view_has}
+use Rattle.inode_ops.proofs.OwnLemmas.{low_among}
 use Rattle.inode_ops.proofs.PlaceLemmas.{IsSet, some_deepest, path_is, last_is, deepest_is, rest_is, whole_rest, partial_rest, entry_bottom, missing_entry, missing_is, over_is}
 use Rattle.inode_ops.proofs.QuotaLemmas.{LocksQuota, locks_each}
 
@@ -63,7 +63,7 @@ create_locked client path overwrite place k among =
     let keys : List Key = low place ++ next place ++ quotas place ++ writer_lease place ++ lease client place in
     locked_more (in_mode Exclusive keys ++ []) ((key.Reply client, Exclusive) ∷ []) k (locked_more (in_mode Exclusive keys) [] k (locked_in Exclusive keys k ∙ among))
 
-first_parts : (k : Key) (a b c d e : List Key) → list_any (same_key k) (a ++ b ++ c) ≡ true → list_any (same_key k) (a ++ b ++ c ++ d ++ e) ≡ true
+pub first_parts : (k : Key) (a b c d e : List Key) → list_any (same_key k) (a ++ b ++ c) ≡ true → list_any (same_key k) (a ++ b ++ c ++ d ++ e) ≡ true
 first_parts k a b c d e among =
     list_any-append (same_key k) (a ++ b ++ c ++ d) e
     ∙ or_left (list_any (same_key k) (a ++ b ++ c ++ d)) (list_any (same_key k) e) (list_any-append (same_key k) (a ++ b ++ c) d ∙ or_left (list_any (same_key k) (a ++ b ++ c)) (list_any (same_key k) d) among)
@@ -81,10 +81,7 @@ last_locked client path overwrite place found is =
     (list_any-append (same_key found.0) (low place ++ next place) (quotas place)
     ∙ or_left (list_any (same_key found.0) (low place ++ next place)) (list_any (same_key found.0) (quotas place))
     (list_any-append (same_key found.0) (low place) (next place) ∙ or_left (list_any (same_key found.0) (low place)) (list_any (same_key found.0) (next place))
-    (ap (λ (o : Option (Key × Inode)). list_any (same_key found.0) (list_map (λ (r : Key × Inode). r.0) (option_to_list o))) is ∙ itself found.0))))
-  where
-    itself : (k : Key) → (same_key k k || false) ≡ true
-    itself k = elim (keys_tell k k) [ inl h ↦ ap (λ (b : Bool). b || false) h.0 | inr h ↦ absurd (h.1 refl) ]
+    (low_among place found is))))
 
 -- ---- against the rows
 

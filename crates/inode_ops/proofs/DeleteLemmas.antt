@@ -1,5 +1,5 @@
 -- `delete` against the calls table.
-use Rattle.std.proofs.Common.{◌≡◌, ◌≢◌, ℕ, ◌+◌, ◌-◌, Bool, true, false, not, cond, ◌&&◌, ◌||◌, ◌==◌, nat_lt, List, [], ◌∷◌, ◌++◌, map as list_map, length, take, drop, slice_get, Option, Some, None, IfSome, is_some, option_map, option_to_list, Result, Ok, Err, IfOk, arith, refl, sym, ap, subst, ◌∙◌, inl, inr, append-nil, eqb-true}
+use Rattle.std.proofs.Common.{◌≡◌, ◌≢◌, ℕ, ◌+◌, ◌-◌, Bool, true, false, not, cond, ◌&&◌, ◌||◌, ◌==◌, nat_lt, List, [], ◌∷◌, ◌++◌, length, take, drop, slice_get, Option, Some, None, IfSome, is_some, option_map, Result, Ok, Err, IfOk, arith, refl, sym, ap, subst, ◌∙◌, append-nil, eqb-true}
 use Rattle.std.proofs.Math.Bool.{and-false}
 use Rattle.std.proofs.lemmas.Bool.{true≢false, or_left, or_right, lt-ltb}
 use Rattle.std.proofs.lemmas.List.Folds.{list_any-append}
@@ -14,7 +14,6 @@ use Rattle.hops_base.specs.declared.key.Key.{Key}
 use Rattle.hops_base.specs.declared.key.Key.TheVariants as key
 use Rattle.hops_base.specs.declared.memory.NoMemory.{NoMemory}
 use Rattle.hops_base.specs.Key.{same_key}
-use Rattle.hops_base.specs.Tells.{keys_tell}
 use Rattle.name_space.specs.declared.call.Call.{Call}
 use Rattle.name_space.specs.declared.call.Call.TheVariants as call
 use Rattle.name_space.specs.declared.entry.Entry.{Entry}
@@ -53,6 +52,7 @@ use Rattle.inode_table.specs.Inode.{counted_bytes}
 use Rattle.inode_ops.specs.DeleteSteps.{removals, RemovesLast, DeleteOf, AnswersDelete}
 use Rattle.inode_ops.specs.Table.{IsBefore, IsOf, IsAnswer, AreIds, IsNumberedBy, IsCallsTable}
 use Rattle.inode_ops.proofs.QuotaLemmas.{LocksQuota, locks_each}
+use Rattle.inode_ops.proofs.OwnLemmas.{low_among}
 use Rattle.inode_ops.proofs.PlaceLemmas.{IsSet, last_is}
 use Rattle.inode_ops.proofs.RemovedLemmas.{rows_removed, flags_then, ids_removed}
 use Rattle.inode_ops.proofs.DeletePlaceLemmas.{own_there, own_row, knows_children, own_left, are_left, along_left}
@@ -117,13 +117,10 @@ delete_locks_last client path place last is =
     (locked_in Exclusive (low place ++ where_so (is_whole place) (parent place ++ writer_lease place ++ quotas place)) last.0
     ∙ list_any-append (same_key last.0) (low place) (where_so (is_whole place) (parent place ++ writer_lease place ++ quotas place))
     ∙ or_left (list_any (same_key last.0) (low place)) (list_any (same_key last.0) (where_so (is_whole place) (parent place ++ writer_lease place ++ quotas place)))
-    (ap (λ (o : Option (Key × Inode)). list_any (same_key last.0) (list_map (λ (r : Key × Inode). r.0) (option_to_list o))) is ∙ itself last.0)))
-  where
-    itself : (k : Key) → (same_key k k || false) ≡ true
-    itself k = elim (keys_tell k k) [ inl h ↦ ap (λ (b : Bool). b || false) h.0 | inr h ↦ absurd (h.1 refl) ]
+    (low_among place last is)))
 
 -- where the path is whole, also the quota keys of the rows found
-delete_locks_quotas : (client : ClientNo) (path : List (List ℕ)) (place : Place) → is_whole place ≡ true → AllByRecursion (LocksQuota (plan client (call.Delete path false) (place ∷ []))) place.found.items
+pub delete_locks_quotas : (client : ClientNo) (path : List (List ℕ)) (place : Place) → is_whole place ≡ true → AllByRecursion (LocksQuota (plan client (call.Delete path false) (place ∷ []))) place.found.items
 delete_locks_quotas client path place whole = locks_each (plan client (call.Delete path false) (place ∷ [])) place.found.items (λ k among.
     locked_more (path_keys client (call.Delete path false) place ++ []) ((key.Reply client, Exclusive) ∷ []) k (locked_more (path_keys client (call.Delete path false) place) [] k
     (locked_in Exclusive (low place ++ where_so (is_whole place) (parent place ++ writer_lease place ++ quotas place)) k

@@ -13,6 +13,8 @@ pub mod MadeLemmas
 pub mod MissingLemmas
 pub mod OutcomeLemmas
 pub mod OverwriteLemmas
+pub mod OwnLemmas
+pub mod OwnOutcomes
 pub mod PlaceLemmas
 pub mod QuotaLemmas
 pub mod RemovedLemmas

@@ -13,7 +13,6 @@ use Rattle.hops_base.specs.declared.key.Key.{Key}
 use Rattle.hops_base.specs.declared.key.Key.TheVariants as key
 use Rattle.hops_base.specs.declared.memory.NoMemory.{NoMemory}
 use Rattle.hops_base.specs.Key.{same_key}
-use Rattle.hops_base.specs.Tells.{keys_tell}
 use Rattle.name_space.specs.declared.call.Call.{Call}
 use Rattle.name_space.specs.declared.call.Call.TheVariants as call
 use Rattle.name_space.specs.declared.reply.Reply.{Reply}
@@ -50,6 +49,7 @@ use Rattle.inode_ops.specs.Table.{IsBefore, IsAnswer, IsCallsTable}
 use Rattle.inode_ops.proofs.CountLemmas.{all_found}
 use Rattle.inode_ops.proofs.MissingLemmas.{dirs_new}
 use Rattle.inode_ops.proofs.QuotaLemmas.{LocksQuota, locks_each, none_more}
+use Rattle.inode_ops.proofs.OwnLemmas.{low_among}
 use Rattle.inode_ops.proofs.PlaceLemmas.{IsSet, walk_of, some_deepest, path_is, last_is, deepest_is, rest_is, whole_rest, partial_rest, entry_bottom, missing_entry, missing_is, over_is}
 use Rattle.inode_ops.proofs.TableLemmas.{tree_at, unchanged, made}
 
@@ -103,10 +103,7 @@ mkdirs_locks client path place part = locks_each (plan client (call.Mkdirs path)
 stat_locks : (client : ClientNo) (path : List (List ℕ)) (place : Place) (last : Key × Inode) → last_found place ≡ Some last → is_locked (plan client (call.Stat path) (place ∷ [])) last.0 ≡ true
 stat_locks client path place last is =
     locked_more (in_mode Shared (low place) ++ []) ((key.Reply client, Exclusive) ∷ []) last.0 (locked_more (in_mode Shared (low place)) [] last.0 (locked_in Shared (low place) last.0
-    ∙ ap (λ (o : Option (Key × Inode)). list_any (same_key last.0) (list_map (λ (r : Key × Inode). r.0) (Rattle.std.proofs.Common.option_to_list o))) is ∙ itself last.0))
-  where
-    itself : (k : Key) → (same_key k k || false) ≡ true
-    itself k = elim (keys_tell k k) [ inl h ↦ ap (λ (b : Bool). b || false) h.0 | inr h ↦ absurd (h.1 refl) ]
+    ∙ low_among place last is))
 
 -- ---- `mkdirs`
 

@@ -50,13 +50,19 @@ last_some : (first : Key × Inode) (rows : List (Key × Inode)) → (last : Key 
 last_some first [] = (first, refl)
 last_some first (next ∷ rows) = last_some next rows
 
-last_from : (place : Place) (first last : Key × Inode) (rows : List (Key × Inode)) → place.found.items ≡ first ∷ rows → slice_get (first ∷ rows) (length rows) ≡ Some last → last_found place ≡ Some last
+pub last_from : (place : Place) (first last : Key × Inode) (rows : List (Key × Inode)) → place.found.items ≡ first ∷ rows → slice_get (first ∷ rows) (length rows) ≡ Some last → last_found place ≡ Some last
 last_from place first last rows items is =
     let e : length (first ∷ rows) - 1 ≡ length rows = omega arith in
     ap (λ (rs : List (Key × Inode)). slice_get rs (length rs - 1)) items ∙ ap (slice_get (first ∷ rows)) e ∙ is
 
-deepest_from : (place : Place) (first last : Key × Inode) (rows : List (Key × Inode)) → place.found.items ≡ first ∷ rows → slice_get (first ∷ rows) (length rows) ≡ Some last → deepest place ≡ Some last.1
+pub deepest_from : (place : Place) (first last : Key × Inode) (rows : List (Key × Inode)) → place.found.items ≡ first ∷ rows → slice_get (first ∷ rows) (length rows) ≡ Some last → deepest place ≡ Some last.1
 deepest_from place first last rows items is = ap (option_map (λ (r : Key × Inode). r.1)) (last_from place first last rows items is)
+
+-- the names that were not found are those behind the rows
+pub rest_from : (place : Place) (first : Key × Inode) (rows : List (Key × Inode)) (rest : List (List ℕ)) → place.found.items ≡ first ∷ rows → drop (length rows) place.path ≡ rest → missing_names place ≡ rest
+rest_from place first rows rest items drops =
+    let e : length (first ∷ rows) - 1 ≡ length rows = omega arith in
+    ap (λ (rs : List (Key × Inode)). drop (length rs - 1) place.path) items ∙ ap (λ (n : ℕ). drop n place.path) e ∙ drops
 
 -- a place has a last row
 pub some_deepest : (place : Place) → SpellsPlace place → (last : Inode) × (deepest place ≡ Some last)
@@ -106,9 +112,7 @@ module _ (tables : Tables) (next : ℕ) (space : Namespace) (locked : List (Key 
   deepest_is = deepest_from place set.walk.first set.walk.down.bottom set.walk.rows set.walk.items set.walk.down.found
 
   pub rest_is : missing_names place ≡ set.walk.down.rest
-  rest_is =
-      let e : length (set.walk.first ∷ set.walk.rows) - 1 ≡ length set.walk.rows = omega arith in
-      ap (λ (rs : List (Key × Inode)). drop (length rs - 1) place.path) set.walk.items ∙ ap (λ (n : ℕ). drop n place.path) e ∙ set.walk.down.drops
+  rest_is = rest_from place set.walk.first set.walk.rows set.walk.down.rest set.walk.items set.walk.down.drops
 
   -- a path that is found whole has no further names
   pub whole_rest : is_whole place ≡ true → set.walk.down.rest ≡ []

@@ -1,5 +1,5 @@
 -- The quota rows of the directories found, against the rule on the namespace.
-use Rattle.std.proofs.Common.{◌≡◌, ℕ, ◌+◌, ◌≤◌, ◌<◌, Bool, true, false, cond, ◌||◌, ◌==◌, List, [], ◌∷◌, ◌++◌, map as list_map, zip, length, take, drop, reverse, slice_get, Option, Some, None, is_some, option_map, arith, zero, suc, refl, sym, ap, subst, ◌∙◌, inl, inr, append-nil}
+use Rattle.std.proofs.Common.{◌≡◌, ℕ, ◌+◌, ◌≤◌, ◌<◌, Bool, true, false, cond, ◌==◌, List, [], ◌∷◌, ◌++◌, map as list_map, zip, length, take, drop, reverse, slice_get, Option, Some, None, is_some, option_map, arith, zero, suc, refl, sym, ap, subst, ◌∙◌, inl, inr, append-nil}
 use Rattle.std.proofs.lemmas.Bool.{true≢false, or_left, or_right, or_cases}
 use Rattle.std.proofs.lemmas.Bool.Decides.{nat_tests}
 use Rattle.std.proofs.lemmas.List.{reverse-reverse}
@@ -11,7 +11,6 @@ use Rattle.hops_base.specs.declared.ids.Mode.{Mode}
 use Rattle.hops_base.specs.declared.key.Key.{Key}
 use Rattle.hops_base.specs.declared.key.Key.TheVariants as key
 use Rattle.hops_base.specs.Key.{same_key}
-use Rattle.hops_base.specs.Tells.{keys_tell}
 use Rattle.name_space.specs.declared.entry.Entry.{Entry}
 use Rattle.name_space.specs.declared.reply.Exception.{Exception}
 use Rattle.name_space.specs.Namespace.{Namespace, Path, IsNamespace, entry_at, above}
@@ -28,6 +27,7 @@ use Rattle.db_state.specs.Counts.{Counts}
 use Rattle.db_state.specs.Plan.{where_so}
 use Rattle.db_state.specs.Current.{Leads, IsThere, IsMissing, SeesQuotas, is_locked}
 use Rattle.inode_ops.specs.QuotaSteps.{quota_in, full_at, has_id}
+use Rattle.inode_ops.proofs.OwnLemmas.{itself}
 use Rattle.inode_ops.proofs.WalkLemmas.{IsAt, at_next, stopped, regroup}
 
 -- ---- lists of paths
@@ -108,9 +108,6 @@ locks_each locked (r ∷ rows) all = (
   locks_each locked rows (λ k among. all k (list_any-append (same_key k) (where_so r.1.has_quota (key.Quota r.1.id ∷ [])) (quota_keys rows)
       ∙ or_right (list_any (same_key k) (where_so r.1.has_quota (key.Quota r.1.id ∷ []))) (list_any (same_key k) (quota_keys rows)) among)),
 )
-  where
-    itself : (k : Key) → (same_key k k || false) ≡ true
-    itself k = elim (keys_tell k k) [ inl h ↦ rw h.0 refl | inr h ↦ absurd (h.1 refl) ]
 
 module _ (inodes : Inodes) (quotas : Quotas) (space : Namespace) (stands : Stands inodes quotas [] space) (locked : List (Key × Mode)) (seen : List (InodeId × QuotaRow)) (sees : SeesQuotas quotas locked seen) where
   -- the quota row that was read of a row found is there

@@ -1,15 +1,12 @@
 -- Calls that are told something and change nothing, against the calls table.
-use Rattle.std.proofs.Common.{◌≡◌, ℕ, Bool, true, false, ◌||◌, List, [], ◌∷◌, ◌++◌, map as list_map, reverse, slice_get, option_to_list, Option, Some, None, Result, Ok, Err, IfOk, refl, sym, ap, ◌∙◌, inl, inr, append-nil}
+use Rattle.std.proofs.Common.{◌≡◌, ℕ, true, List, [], ◌∷◌, ◌++◌, reverse, slice_get, Option, Some, None, Result, Ok, Err, IfOk, sym, ap, ◌∙◌, append-nil}
 use Rattle.std.proofs.lemmas.List.{reverse-reverse}
-use Rattle.std.specs.List.{list_any}
 use Rattle.hops_base.specs.declared.ids.ClientNo.{ClientNo}
 use Rattle.hops_base.specs.declared.ids.OpId.{OpId}
 use Rattle.hops_base.specs.declared.ids.InodeId.{InodeId}
 use Rattle.hops_base.specs.declared.ids.Mode.{Mode}
 use Rattle.hops_base.specs.declared.key.Key.{Key}
 use Rattle.hops_base.specs.declared.memory.NoMemory.{NoMemory}
-use Rattle.hops_base.specs.Key.{same_key}
-use Rattle.hops_base.specs.Tells.{keys_tell}
 use Rattle.name_space.specs.declared.call.Call.{Call}
 use Rattle.name_space.specs.declared.reply.Reply.{Reply}
 use Rattle.name_space.specs.Namespace.{Namespace}
@@ -31,6 +28,7 @@ use Rattle.inode_ops.specs.Steps.{IsTold}
 use Rattle.inode_ops.specs.Table.{IsBefore, IsCallsTable}
 use Rattle.inode_ops.proofs.PlaceLemmas.{IsSet, path_is, whole_rest}
 use Rattle.inode_ops.proofs.TableLemmas.{tree_at, unchanged}
+use Rattle.inode_ops.proofs.OwnLemmas.{low_among}
 use Rattle.inode_ops.proofs.OutcomeLemmas.{set_of, view_has, locked_in, locked_more}
 
 -- an outcome is what the calls table says, whoever calls
@@ -69,7 +67,4 @@ module _ (tables : Tables) (next : ℕ) (space : Namespace) (locked : List (Key 
 pub low_locked : (mode : Mode) (place : Place) (last : Key × Inode) (more : List (Key × Mode)) → last_found place ≡ Some last → is_locked ((in_mode mode (low place) ++ []) ++ more) last.0 ≡ true
 low_locked mode place last more is =
     locked_more (in_mode mode (low place) ++ []) more last.0 (locked_more (in_mode mode (low place)) [] last.0 (locked_in mode (low place) last.0
-    ∙ ap (λ (o : Option (Key × Inode)). list_any (same_key last.0) (list_map (λ (r : Key × Inode). r.0) (option_to_list o))) is ∙ itself last.0))
-  where
-    itself : (k : Key) → (same_key k k || false) ≡ true
-    itself k = elim (keys_tell k k) [ inl h ↦ ap (λ (b : Bool). b || false) h.0 | inr h ↦ absurd (h.1 refl) ]
+    ∙ low_among place last is))

@@ -1,6 +1,7 @@
 //! The calls on inodes.
 
 ghost use Rattle.std.specs.Prelude.{IfOk};
+ghost use Rattle.db_state.specs.Locked.{WritesOwn};
 ghost use Rattle.inode_ops.specs.Outcomes.{IsViewOf};
 ghost use Rattle.inode_ops.specs.Table.{IsCallsTable};
 
@@ -27,7 +28,8 @@ pub fn outcome(
     call: &Call,
 ) -> Result<Outcome, NoMemory>
     requires { IsViewOf view.now call.now }
-    ensures { IfOk result (IsCallsTable view.now client user.now call.now) }
+    ensures table { IfOk result (IsCallsTable view.now client user.now call.now) }
+    ensures own { IfOk result (WritesOwn view.now client call.now) }
 {
     let place = only_place(view);
     match call {

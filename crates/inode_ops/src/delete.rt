@@ -4,6 +4,7 @@ ghost use Rattle.std.specs.Prelude.{false, ℕ, List, IfOk};
 ghost use Rattle.hops_base.specs.declared.ids.ClientNo.{ClientNo};
 ghost use Rattle.name_space.specs.declared.call.Call.TheVariants as call;
 ghost use Rattle.db_state.specs.Current.{SpellsPlace};
+ghost use Rattle.db_state.specs.Locked.{WritesOwn};
 ghost use Rattle.db_state.specs.declared.outcome.Outcome.{Outcome};
 ghost use Rattle.inode_ops.specs.DeleteSteps.{RemovesLast, AnswersDelete};
 ghost use Rattle.inode_ops.specs.Outcomes.{IsViewOf};
@@ -23,7 +24,8 @@ use std::alloc::Global;
 /// memory.
 pub fn delete(alloc: Global, view: &View, path: &Path) -> Result<Outcome, NoMemory>
     requires { IsViewOf view.now (call.Delete path.now false) }
-    ensures { IfOk result (λ outcome. (client : ClientNo) (user : List ℕ) → IsCallsTable view.now client user (call.Delete path.now false) outcome) }
+    ensures table { IfOk result (λ outcome. (client : ClientNo) (user : List ℕ) → IsCallsTable view.now client user (call.Delete path.now false) outcome) }
+    ensures own { IfOk result (λ outcome. (client : ClientNo) → WritesOwn view.now client (call.Delete path.now false) outcome) }
 {
     let place = only_place(view);
     delete_at(alloc, place, view.quotas.as_slice())

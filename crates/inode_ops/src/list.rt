@@ -4,6 +4,7 @@ ghost use Rattle.std.specs.Prelude.{◌≡◌, ◌∷◌, [], ℕ, List, IfOk};
 ghost use Rattle.hops_base.specs.declared.ids.ClientNo.{ClientNo};
 ghost use Rattle.name_space.specs.declared.call.Call.TheVariants as call;
 ghost use Rattle.db_state.specs.Current.{listed_row};
+ghost use Rattle.db_state.specs.Locked.{WritesOwn};
 ghost use Rattle.inode_ops.specs.Outcomes.{IsViewOf};
 ghost use Rattle.inode_ops.specs.Table.{IsCallsTable};
 
@@ -19,7 +20,8 @@ use std::alloc::Global;
 /// missing.
 pub fn list(alloc: Global, view: &View, path: &Path) -> Result<Outcome, NoMemory>
     requires { IsViewOf view.now (call.List path.now) }
-    ensures { IfOk result (λ outcome. (client : ClientNo) (user : List ℕ) → IsCallsTable view.now client user (call.List path.now) outcome) }
+    ensures table { IfOk result (λ outcome. (client : ClientNo) (user : List ℕ) → IsCallsTable view.now client user (call.List path.now) outcome) }
+    ensures own { IfOk result (λ outcome. (client : ClientNo) → WritesOwn view.now client (call.List path.now) outcome) }
 {
     let place = only_place(view);
     if !is_whole(place) {
