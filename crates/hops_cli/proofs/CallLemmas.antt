@@ -21,7 +21,6 @@ use Rattle.inode_table.specs.declared.inode.Inode.{Inode}
 use Rattle.db_state.specs.State.{State, Inodes}
 use Rattle.db_state.specs.Spelled.{IsTree}
 use Rattle.db_state.specs.Plan.{deepest}
-use Rattle.db_state.specs.declared.view.Place.{Place}
 use Rattle.db_state.specs.Consistent.{IsConsistent}
 use Rattle.db_state.specs.Written.{tables_of, next_after, committed}
 use Rattle.db_state.specs.declared.view.View.{View}
@@ -32,7 +31,7 @@ use Rattle.hops_base.specs.declared.key.Key.{Key}
 use Rattle.hops_base.specs.Roomy.{Roomy}
 use Rattle.hops_cli.specs.Built.{is_built}
 use Rattle.inode_ops.specs.Table.{IsAnswer, IsCallsTable}
-use Rattle.inode_ops.specs.Outcomes.{CanRaise, CanMake, path_of, IsViewOf}
+use Rattle.inode_ops.specs.Outcomes.{CanRaise, CanMake, path_of, IsViewOf, view_of_one}
 use Rattle.hops_cli.specs.Reading.{IsFound, IsViewAt}
 use Rattle.hops_cli.specs.Run.{rows_read}
 use Rattle.hops_cli.specs.Turning.{IsReady, IsTurned}
@@ -141,8 +140,5 @@ can_make state asked view reads kept room small valid read =
     }
 
 pub viewed : (state : State) (user : List ℕ) (asked : Call) (view : View) (reads : ℕ) → IsConsistent state → IsReady state user → is_built asked ≡ true → is_valid asked ≡ true → IsViewAt state asked view reads → IsViewOf view asked
-viewed state user asked view reads kept ready small valid read = record {
-  only = ap length read.only;
-  place = subst (λ (places : List Place). IfSome (slice_get places 0) (λ (place : Place). (path_of asked ≡ Some place.path) × CanMake place view.quotas.items view.next.0)) (sym read.only)
-      (path_named asked read.path small read.one ∙ ap (λ (p : Path). Some p) (sym read.read.of), can_make state asked view reads kept ready.room small valid read);
-}
+viewed state user asked view reads kept ready small valid read =
+    view_of_one asked read.place view read.only (path_named asked read.path small read.one ∙ ap (λ (p : Path). Some p) (sym read.read.of)) (can_make state asked view reads kept ready.room small valid read)

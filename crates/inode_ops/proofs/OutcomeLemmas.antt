@@ -42,7 +42,7 @@ use Rattle.db_state.specs.declared.writes.Row.{Row}
 use Rattle.db_state.specs.FileLaws.{paths_below-length}
 use Rattle.db_state.specs.NewDirs.{new_dirs}
 use Rattle.db_state.specs.QuotaWrites.{quota_writes, raised}
-use Rattle.inode_ops.specs.Outcomes.{path_of, CanMake, IsViewOf}
+use Rattle.inode_ops.specs.Outcomes.{path_of, Suits, IsViewOf, suits_spell}
 use Rattle.inode_ops.specs.QuotaSteps.{first_full, AreQuotasFound}
 use Rattle.inode_ops.specs.Steps.{status_of, status_of_kind, missing_names, IsMadeUnless, MkdirsOf, AnswersMkdirs, StatOf, AnswersStat}
 use Rattle.inode_ops.specs.Table.{IsBefore, IsAnswer, IsCallsTable}
@@ -258,8 +258,8 @@ stat_outcome view client user place one spells (Subtree of) answers =
 -- what a view has for a call of this path
 pub view_has : (view : View) (asked : Call) (place : Place) (path : List (List ℕ)) → IsViewOf view asked → slice_get view.places.items 0 ≡ Some place → path_of asked ≡ Some path → (view.places.items ≡ place ∷ []) × (place.path ≡ path) × SpellsPlace place
 view_has view asked place path is first named =
-    let of = subst (λ (o : Option Place). IfSome o (λ place. (path_of asked ≡ Some place.path) × CanMake place view.quotas.items view.next.0)) first is.place in
-    (one_item view.places.items place is.only first, (let same : Some place.path ≡ Some path = sym of.0 ∙ named in cc), of.1.spells)
+    let of = subst (λ (o : Option Place). IfSome o (λ place. (path_of asked ≡ Some place.path) × Suits asked place view.quotas.items view.next.0)) first is.place in
+    (one_item view.places.items place is.only first, (let same : Some place.path ≡ Some path = sym of.0 ∙ named in cc), suits_spell asked place view.quotas.items view.next.0 of.1)
 
 pub mkdirs_result : (view : View) (client : ClientNo) (user : List ℕ) (asked : Call) (place : Place) (path : List (List ℕ)) (seen : List (InodeId × QuotaRow)) (r : Result Outcome NoMemory) → IsViewOf view asked → slice_get view.places.items 0 ≡ Some place → asked ≡ call.Mkdirs path → seen ≡ view.quotas.items
     → IfOk r (AnswersMkdirs place seen view.next.0 user) → IfOk r (IsCallsTable view client user asked)

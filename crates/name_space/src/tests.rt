@@ -3,98 +3,148 @@
 use crate::{Call, Entry, Exception, FileStatus, Listed, Listing, Reply, Why, copy_listing};
 use hops_base::{ClientNo, Name, Path, User};
 use std::alloc::Global;
+use std::process::Abort;
 use std::test::Fail;
 
-fn path(alloc: Global) -> Result<Path, Fail> {
-    Ok(Path::read(alloc, "/a")?)
+fn path(rt: &impl Abort, alloc: Global) -> Path {
+    Path::read(alloc, "/a").expect(rt, "a path")
+}
+
+fn user(rt: &impl Abort, alloc: Global) -> User {
+    User::read(alloc, "ann").expect(rt, "a user")
+}
+
+fn assert_valid(rt: &impl Abort, call: Call, valid: bool) {
+    assert_eq!(rt; call.is_valid(), valid, "at {call:?}");
 }
 
 #[test]
-fn numbers_of_calls_are_in_their_ranges(rt: HostRuntime) -> Result<(), Fail> {
-    let alloc = rt.alloc();
-    for (call, valid) in [
-        (Call::Grow(path(alloc)?, 0), false),
-        (Call::Grow(path(alloc)?, 1), true),
-        (Call::Grow(path(alloc)?, 4_294_967_296), true),
-        (Call::Grow(path(alloc)?, 4_294_967_297), false),
-        (Call::Chmod(path(alloc)?, 511), true),
-        (Call::Chmod(path(alloc)?, 512), false),
-        (Call::SetQuota(path(alloc)?, None, None), true),
-        (Call::SetQuota(path(alloc)?, Some(0), None), false),
-        (
-            Call::SetQuota(path(alloc)?, Some(1), Some(1_000_000_000_000_000)),
-            true,
-        ),
-        (
-            Call::SetQuota(path(alloc)?, None, Some(1_000_000_000_000_001)),
-            false,
-        ),
+fn bytes_of_grow_are_in_their_range(rt: HostRuntime) {
+    for (bytes, valid) in [
+        (0, false),
+        (1, true),
+        (4_294_967_296, true),
+        (4_294_967_297, false),
     ] {
-        assert_eq!(rt; call.is_valid(), valid, "at {call:?}");
+        assert_valid(&rt, Call::Grow(path(&rt, rt.alloc()), bytes), valid);
     }
-    Ok(())
+}
+
+#[test]
+fn modes_of_chmod_are_in_their_range(rt: HostRuntime) {
+    for (mode, valid) in [(511, true), (512, false)] {
+        assert_valid(&rt, Call::Chmod(path(&rt, rt.alloc()), mode), valid);
+    }
+}
+
+#[test]
+fn quotas_are_in_their_ranges(rt: HostRuntime) {
+    for (names, bytes, valid) in [
+        (None, None, true),
+        (Some(0), None, false),
+        (Some(1), Some(1_000_000_000_000_000), true),
+        (None, Some(1_000_000_000_000_001), false),
+    ] {
+        let path = path(&rt, rt.alloc());
+        assert_valid(&rt, Call::SetQuota(path, names, bytes), valid);
+    }
+}
+
+// Whether a call with a path of so many names is valid.
+fn is_valid_at(alloc: Global, names: u32) -> Result<bool, Fail> {
+    let mut text = String::new(alloc);
+    for _ in 0..names {
+        text.push_str("/a")?;
+    }
+    Ok(Call::Stat(Path::read_free(alloc, &text)?).is_valid())
 }
 
 #[test]
 fn paths_of_calls_are_short(rt: HostRuntime) -> Result<(), Fail> {
-    let alloc = rt.alloc();
-    let mut text = String::new(alloc);
-    for _ in 0..1000 {
-        text.push_str("/a")?;
-    }
-    assert!(rt; Call::Stat(Path::read_free(alloc, &text)?).is_valid());
-    text.push_str("/a")?;
-    assert!(rt; !Call::Stat(Path::read_free(alloc, &text)?).is_valid());
+    assert!(rt; is_valid_at(rt.alloc(), 1000)?);
+    assert!(rt; !is_valid_at(rt.alloc(), 1001)?);
     Ok(())
 }
 
-#[test]
-fn three_calls_only_look(rt: HostRuntime) -> Result<(), Fail> {
-    let alloc = rt.alloc();
-    for (call, changes) in [
-        (Call::Mkdirs(path(alloc)?), true),
-        (Call::Create(path(alloc)?, true), true),
-        (Call::Append(path(alloc)?), true),
-        (Call::Grow(path(alloc)?, 1), true),
-        (Call::Close(path(alloc)?), true),
-        (Call::Stat(path(alloc)?), false),
-        (Call::List(path(alloc)?), false),
-        (Call::Delete(path(alloc)?, true), true),
-        (Call::Rename(path(alloc)?, path(alloc)?), true),
-        (Call::Chmod(path(alloc)?, 0), true),
-        (Call::SetQuota(path(alloc)?, None, None), true),
-        (Call::Usage(path(alloc)?), false),
-    ] {
-        assert_eq!(rt; call.copy()?.changes(), changes, "at {call:?}");
-    }
-    Ok(())
+// Asserts whether a copy of a call changes something.
+fn assert_changes(rt: &impl Abort, call: Call, changes: bool) {
+    assert_eq!(rt; copy_changes(rt, &call), changes, "at {call:?}");
+}
+
+fn copy_changes(rt: &impl Abort, call: &Call) -> bool {
+    call.copy().expect(rt, "a copy").changes()
 }
 
 #[test]
-fn copies_are_made(rt: HostRuntime) -> Result<(), Fail> {
+fn three_calls_only_look(rt: HostRuntime) {
     let alloc = rt.alloc();
+    assert_changes(&rt, Call::Stat(path(&rt, alloc)), false);
+    assert_changes(&rt, Call::List(path(&rt, alloc)), false);
+    assert_changes(&rt, Call::Usage(path(&rt, alloc)), false);
+}
+
+#[test]
+fn calls_that_write_change(rt: HostRuntime) {
+    let alloc = rt.alloc();
+    assert_changes(&rt, Call::Mkdirs(path(&rt, alloc)), true);
+    assert_changes(&rt, Call::Create(path(&rt, alloc), true), true);
+    assert_changes(&rt, Call::Append(path(&rt, alloc)), true);
+    assert_changes(&rt, Call::Grow(path(&rt, alloc), 1), true);
+    assert_changes(&rt, Call::Close(path(&rt, alloc)), true);
+}
+
+#[test]
+fn calls_that_move_and_set_change(rt: HostRuntime) {
+    let alloc = rt.alloc();
+    assert_changes(&rt, Call::Delete(path(&rt, alloc), true), true);
+    let renamed = Call::Rename(path(&rt, alloc), path(&rt, alloc));
+    assert_changes(&rt, renamed, true);
+    assert_changes(&rt, Call::Chmod(path(&rt, alloc), 0), true);
+    let no_quota = Call::SetQuota(path(&rt, alloc), None, None);
+    assert_changes(&rt, no_quota, true);
+}
+
+// The listing of the file `f`.
+fn listing(rt: &impl Abort, alloc: Global) -> Result<Listing, Fail> {
+    let status = FileStatus::File {
+        len: 5,
+        mode: 420,
+        owner: user(rt, alloc),
+    };
+    let name = Name::read(alloc, "f").expect(rt, "a name");
     let mut listing = Listing::new(alloc);
     listing.reserve(1)?;
-    listing.push(Listed {
-        name: Name::read(alloc, "f")?,
-        status: FileStatus::File {
-            len: 5,
-            mode: 420,
-            owner: User::read(alloc, "ann")?,
-        },
-    });
-    let copy = copy_listing(&listing)?;
-    assert_eq!(rt; copy.get(0).ok_or("gone")?.name.text(), "f");
-    let reply = Reply::Entries(listing).copy()?;
-    assert!(rt; matches!(&reply, Reply::Entries(entries) if entries.len() == 1));
-    let refused = Exception::NSQuotaExceeded {
-        at: path(alloc)?,
-        used: 1,
-        limit: 2,
-    };
+    listing.push(Listed { name, status });
+    Ok(listing)
+}
+
+#[test]
+fn listings_are_copied(rt: HostRuntime) -> Result<(), Fail> {
+    let copy = copy_listing(&listing(&rt, rt.alloc())?)?;
+    let first = copy.get(0).ok_or("gone")?;
+    assert_eq!(rt; first.name.text(), "f");
+    Ok(())
+}
+
+fn copy_of(rt: &impl Abort, reply: Reply) -> Reply {
+    reply.copy().expect(rt, "a copy")
+}
+
+#[test]
+fn replies_are_copied(rt: HostRuntime) -> Result<(), Fail> {
+    let copy = copy_of(&rt, Reply::Entries(listing(&rt, rt.alloc())?));
+    assert!(rt; matches!(&copy, Reply::Entries(entries) if entries.len() == 1));
+    Ok(())
+}
+
+#[test]
+fn refusals_are_copied(rt: HostRuntime) {
+    let at = path(&rt, rt.alloc());
+    let (used, limit) = (1, 2);
+    let refused = Exception::NSQuotaExceeded { at, used, limit };
     assert!(rt;
         matches!(
-            Reply::Refused(refused).copy()?,
+            copy_of(&rt, Reply::Refused(refused)),
             Reply::Refused(Exception::NSQuotaExceeded {
                 used: 1,
                 limit: 2,
@@ -102,26 +152,30 @@ fn copies_are_made(rt: HostRuntime) -> Result<(), Fail> {
             })
         )
     );
-    assert!(rt;
-        matches!(
-            Exception::IO(Why::BadParent).copy()?,
-            Exception::IO(Why::BadParent)
-        )
-    );
+}
+
+#[test]
+fn exceptions_are_copied(rt: HostRuntime) {
+    let copy = Exception::IO(Why::BadParent).copy().expect(&rt, "a copy");
+    assert!(rt; matches!(copy, Exception::IO(Why::BadParent)));
+}
+
+#[test]
+fn entries_are_copied(rt: HostRuntime) {
     let entry = Entry::File {
         len: 0,
         writer: Some(ClientNo(3)),
         mode: 420,
-        owner: User::read(alloc, "ann")?,
+        owner: user(&rt, rt.alloc()),
     };
+    let copy = entry.copy().expect(&rt, "a copy");
     assert!(rt;
         matches!(
-            entry.copy()?,
+            copy,
             Entry::File {
                 writer: Some(ClientNo(3)),
                 ..
             }
         )
     );
-    Ok(())
 }

@@ -6,9 +6,11 @@ ghost use Rattle.name_space.specs.Call.{is_valid};
 ghost use Rattle.name_space.specs.Script.{is_client};
 
 use crate::{CallList, ClientCalls, ClientList, Fields, Row, Script, call_value, write_script};
-use hops_base::{NodeNo, Path, StopList, User};
+use hops_base::{NoMemory, NodeNo, Path, StopList, User};
 use name_space::Call;
+use serde_json::Value;
 use std::alloc::Global;
+use std::process::Abort;
 use std::test::Fail;
 
 // A script of these clients, at one namenode and with nothing else said.
@@ -35,24 +37,54 @@ fn one_call(alloc: Global, user: &str, call: Call) -> Result<ClientList, Fail>
     Ok(clients)
 }
 
-// The text of the call that is made with this path.
-fn text_of<F: FnOnce(Path) -> Call>(alloc: Global, path: &str, make: F) -> Result<String, Fail>
-    requires { F.IsAlwaysCallable make }
-{
-    let call = make(Path::read(alloc, path)?);
-    Ok(call_value(alloc, &call)?.to_string(alloc)?)
+// A script of no clients that says everything else.
+fn all_said(alloc: Global) -> Result<Script, Fail> {
+    let mut stops = StopList::new(alloc);
+    stops.reserve(2)?;
+    stops.push((NodeNo(15), 1_000_000));
+    stops.push((NodeNo(0), 1));
+    let script = Script::new(16, ClientList::new(alloc), stops, 1, 1_000_000, false);
+    Ok(script)
+}
+
+// Asserts that this is the text of a script.
+fn assert_script(rt: &impl Abort, alloc: Global, script: &Script, expected: &str) {
+    let text = write_script(alloc, script).expect(rt, "a text");
+    assert_eq!(rt; text.as_slice(), expected.as_bytes());
+}
+
+// Asserts that this is the text of a value.
+fn assert_text(rt: &impl Abort, alloc: Global, value: Value, expected: &str) {
+    let text = text_of(alloc, value).expect(rt, "a text");
+    assert_eq!(rt; text.as_str(), expected);
+}
+
+fn text_of(alloc: Global, value: Value) -> Result<String, NoMemory> {
+    Ok(value.to_string(alloc)?)
+}
+
+// Asserts that this is the text of a call.
+fn assert_call(rt: &impl Abort, alloc: Global, call: Call, expected: &str) {
+    let value = call_value(alloc, &call).expect(rt, "a value");
+    assert_text(rt, alloc, value, expected);
+    // A call of its drop is proved sooner than a match over its kinds.
+    drop(call);
+}
+
+fn path(rt: &impl Abort, alloc: Global, text: &str) -> Path {
+    Path::read(alloc, text).expect(rt, "a path")
 }
 
 #[test]
-fn a_script_without_clients(rt: HostRuntime) -> Result<(), Fail> {
+fn a_script_without_clients(rt: HostRuntime) {
     let alloc = rt.alloc();
     let script = plain(alloc, ClientList::new(alloc));
-    let text = write_script(alloc, &script)?;
-    assert_eq!(rt;
-        text.as_slice(),
-        b"{\"clients\":[],\"grace\":64,\"namenodes\":1,\"persist\":true,\"stops\":[],\"tries\":10000,\"version\":1}".as_slice()
+    assert_script(
+        &rt,
+        alloc,
+        &script,
+        "{\"clients\":[],\"grace\":64,\"namenodes\":1,\"persist\":true,\"stops\":[],\"tries\":10000,\"version\":1}",
     );
-    Ok(())
 }
 
 #[test]
@@ -60,10 +92,11 @@ fn a_generated_script(rt: HostRuntime) -> Result<(), Fail> {
     let alloc = rt.alloc();
     let path = Path::read(alloc, "/n2")?;
     let script = plain(alloc, one_call(alloc, "u0", Call::Stat(path))?);
-    let text = write_script(alloc, &script)?;
-    assert_eq!(rt;
-        text.as_slice(),
-        b"{\"clients\":[{\"calls\":[[\"stat\",\"/n2\"]],\"user\":\"u0\"}],\"grace\":64,\"namenodes\":1,\"persist\":true,\"stops\":[],\"tries\":10000,\"version\":1}".as_slice()
+    assert_script(
+        &rt,
+        alloc,
+        &script,
+        "{\"clients\":[{\"calls\":[[\"stat\",\"/n2\"]],\"user\":\"u0\"}],\"grace\":64,\"namenodes\":1,\"persist\":true,\"stops\":[],\"tries\":10000,\"version\":1}",
     );
     Ok(())
 }
@@ -71,106 +104,83 @@ fn a_generated_script(rt: HostRuntime) -> Result<(), Fail> {
 #[test]
 fn a_script_with_everything_said(rt: HostRuntime) -> Result<(), Fail> {
     let alloc = rt.alloc();
-    let mut stops = StopList::new(alloc);
-    stops.reserve(2)?;
-    stops.push((NodeNo(15), 1_000_000));
-    stops.push((NodeNo(0), 1));
-    let script = Script::new(16, ClientList::new(alloc), stops, 1, 1_000_000, false);
-    let text = write_script(alloc, &script)?;
-    assert_eq!(rt;
-        text.as_slice(),
-        b"{\"clients\":[],\"grace\":1000000,\"namenodes\":16,\"persist\":false,\"stops\":[[15,1000000],[0,1]],\"tries\":1,\"version\":1}".as_slice()
+    assert_script(
+        &rt,
+        alloc,
+        &all_said(alloc)?,
+        "{\"clients\":[],\"grace\":1000000,\"namenodes\":16,\"persist\":false,\"stops\":[[15,1000000],[0,1]],\"tries\":1,\"version\":1}",
     );
     Ok(())
 }
 
 #[test]
-fn calls_with_a_path_alone(rt: HostRuntime) -> Result<(), Fail> {
+fn calls_with_a_path_alone(rt: HostRuntime) {
     let alloc = rt.alloc();
-    assert_eq!(rt;
-        text_of(alloc, "/a/b", Call::Mkdirs)?.as_str(),
-        "[\"mkdirs\",\"/a/b\"]"
-    );
-    assert_eq!(rt;
-        text_of(alloc, "/f", Call::Append)?.as_str(),
-        "[\"append\",\"/f\"]"
-    );
-    assert_eq!(rt;
-        text_of(alloc, "/f", Call::Close)?.as_str(),
-        "[\"close\",\"/f\"]"
-    );
-    Ok(())
+    let mkdirs = Call::Mkdirs(path(&rt, alloc, "/a/b"));
+    assert_call(&rt, alloc, mkdirs, "[\"mkdirs\",\"/a/b\"]");
+    let append = Call::Append(path(&rt, alloc, "/f"));
+    assert_call(&rt, alloc, append, "[\"append\",\"/f\"]");
+    let close = Call::Close(path(&rt, alloc, "/f"));
+    assert_call(&rt, alloc, close, "[\"close\",\"/f\"]");
 }
 
 #[test]
-fn calls_that_only_look(rt: HostRuntime) -> Result<(), Fail> {
+fn calls_that_only_look(rt: HostRuntime) {
     let alloc = rt.alloc();
-    assert_eq!(rt;
-        text_of(alloc, "/", Call::Stat)?.as_str(),
-        "[\"stat\",\"/\"]"
-    );
-    assert_eq!(rt;
-        text_of(alloc, "/a", Call::List)?.as_str(),
-        "[\"list\",\"/a\"]"
-    );
-    assert_eq!(rt;
-        text_of(alloc, "/q", Call::Usage)?.as_str(),
-        "[\"usage\",\"/q\"]"
-    );
-    Ok(())
+    let stat = Call::Stat(path(&rt, alloc, "/"));
+    assert_call(&rt, alloc, stat, "[\"stat\",\"/\"]");
+    let list = Call::List(path(&rt, alloc, "/a"));
+    assert_call(&rt, alloc, list, "[\"list\",\"/a\"]");
+    let usage = Call::Usage(path(&rt, alloc, "/q"));
+    assert_call(&rt, alloc, usage, "[\"usage\",\"/q\"]");
 }
 
 #[test]
-fn calls_with_a_truth_value(rt: HostRuntime) -> Result<(), Fail> {
+fn calls_with_a_truth_value(rt: HostRuntime) {
     let alloc = rt.alloc();
-    let create = text_of(alloc, "/f", |path| Call::Create(path, true))?;
-    assert_eq!(rt; create.as_str(), "[\"create\",\"/f\",true]");
-    let delete = text_of(alloc, "/f", |path| Call::Delete(path, false))?;
-    assert_eq!(rt; delete.as_str(), "[\"delete\",\"/f\",false]");
-    Ok(())
+    let create = Call::Create(path(&rt, alloc, "/f"), true);
+    assert_call(&rt, alloc, create, "[\"create\",\"/f\",true]");
+    let delete = Call::Delete(path(&rt, alloc, "/f"), false);
+    assert_call(&rt, alloc, delete, "[\"delete\",\"/f\",false]");
 }
 
 #[test]
-fn calls_with_a_number(rt: HostRuntime) -> Result<(), Fail> {
+fn calls_with_a_number(rt: HostRuntime) {
     let alloc = rt.alloc();
-    let grow = text_of(alloc, "/f", |path| Call::Grow(path, 4_294_967_296))?;
-    assert_eq!(rt; grow.as_str(), "[\"grow\",\"/f\",4294967296]");
-    let chmod = text_of(alloc, "/f", |path| Call::Chmod(path, 511))?;
-    assert_eq!(rt; chmod.as_str(), "[\"chmod\",\"/f\",511]");
-    Ok(())
+    let grow = Call::Grow(path(&rt, alloc, "/f"), 4_294_967_296);
+    assert_call(&rt, alloc, grow, "[\"grow\",\"/f\",4294967296]");
+    let chmod = Call::Chmod(path(&rt, alloc, "/f"), 511);
+    assert_call(&rt, alloc, chmod, "[\"chmod\",\"/f\",511]");
 }
 
 #[test]
-fn quotas_may_be_absent(rt: HostRuntime) -> Result<(), Fail> {
+fn quotas_may_be_absent(rt: HostRuntime) {
     let alloc = rt.alloc();
-    let bytes = text_of(alloc, "/q", |path| Call::SetQuota(path, None, Some(7)))?;
-    assert_eq!(rt; bytes.as_str(), "[\"set_quota\",\"/q\",null,7]");
-    let names = text_of(alloc, "/q", |path| Call::SetQuota(path, Some(3), None))?;
-    assert_eq!(rt; names.as_str(), "[\"set_quota\",\"/q\",3,null]");
-    Ok(())
+    let bytes = Call::SetQuota(path(&rt, alloc, "/q"), None, Some(7));
+    assert_call(&rt, alloc, bytes, "[\"set_quota\",\"/q\",null,7]");
+    let names = Call::SetQuota(path(&rt, alloc, "/q"), Some(3), None);
+    assert_call(&rt, alloc, names, "[\"set_quota\",\"/q\",3,null]");
 }
 
 #[test]
-fn a_call_with_two_paths(rt: HostRuntime) -> Result<(), Fail> {
+fn a_call_with_two_paths(rt: HostRuntime) {
     let alloc = rt.alloc();
-    let call = Call::Rename(Path::read(alloc, "/a")?, Path::read(alloc, "/b/c")?);
-    let text = call_value(alloc, &call)?.to_string(alloc)?;
-    assert_eq!(rt; text.as_str(), "[\"rename\",\"/a\",\"/b/c\"]");
-    Ok(())
+    let call = Call::Rename(path(&rt, alloc, "/a"), path(&rt, alloc, "/b/c"));
+    assert_call(&rt, alloc, call, "[\"rename\",\"/a\",\"/b/c\"]");
 }
 
 #[test]
-fn names_are_escaped(rt: HostRuntime) -> Result<(), Fail> {
+fn names_are_escaped(rt: HostRuntime) {
     let alloc = rt.alloc();
-    for (name, expected) in [
+    for (text, expected) in [
         ("/\"q\"\\", "[\"stat\",\"/\\\"q\\\"\\\\\"]"),
         ("/\u{8}\t\n\u{c}\r", "[\"stat\",\"/\\b\\t\\n\\f\\r\"]"),
         ("/\u{1}\u{1f}\u{7f}", "[\"stat\",\"/\\u0001\\u001f\u{7f}\"]"),
         ("/é€\u{1f980}", "[\"stat\",\"/é€\u{1f980}\"]"),
     ] {
-        assert_eq!(rt; text_of(alloc, name, Call::Stat)?.as_str(), expected);
+        let stat = Call::Stat(path(&rt, alloc, text));
+        assert_call(&rt, alloc, stat, expected);
     }
-    Ok(())
 }
 
 #[test]
@@ -180,10 +190,7 @@ fn a_row_keeps_its_order(rt: HostRuntime) -> Result<(), Fail> {
         .optional(None)?
         .number(1)?
         .truth(false)?;
-    assert_eq!(rt;
-        row.value().to_string(alloc)?.as_str(),
-        "[\"b\",null,1,false]"
-    );
+    assert_text(&rt, alloc, row.value(), "[\"b\",null,1,false]");
     Ok(())
 }
 
@@ -191,9 +198,6 @@ fn a_row_keeps_its_order(rt: HostRuntime) -> Result<(), Fail> {
 fn members_stand_in_the_order_of_their_keys(rt: HostRuntime) -> Result<(), Fail> {
     let alloc = rt.alloc();
     let fields = Fields::new(alloc).text("b", "x")?.optional("a", None)?;
-    assert_eq!(rt;
-        fields.value().to_string(alloc)?.as_str(),
-        "{\"a\":null,\"b\":\"x\"}"
-    );
+    assert_text(&rt, alloc, fields.value(), "{\"a\":null,\"b\":\"x\"}");
     Ok(())
 }

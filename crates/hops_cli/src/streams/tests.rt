@@ -1,5 +1,6 @@
 use super::*;
 use std::io;
+use std::process::Abort;
 use std::test::Fail;
 
 // It fails at each call.
@@ -22,16 +23,41 @@ impl Write for Broken {
     }
 }
 
+// Asserts what the source answers to a call for so many bytes.
+fn assert_taken<R: Read>(
+    rt: &impl Abort,
+    source: &mut InputSource<R>,
+    into: &mut Vec<u8>,
+    max: usize,
+    expected: Taken,
+) {
+    assert_eq!(rt; source.take(into, max), expected);
+}
+
+// Asserts what the sink answers to these bytes.
+fn assert_given<W: Write>(
+    rt: &impl Abort,
+    sink: &mut OutputSink<W>,
+    bytes: &[u8],
+    expected: Given,
+) {
+    assert_eq!(rt; sink.give(bytes), expected);
+}
+
 #[test]
 fn reads_to_the_end(rt: HostRuntime) -> Result<(), Fail> {
     let alloc = rt.alloc();
     let bytes = vec![in alloc; b'x'; 70_000]?;
     let mut source = InputSource::new(alloc, bytes.as_slice())?;
     let mut into = Vec::new(alloc);
-    assert_eq!(rt; source.take(&mut into, 100), Taken::Got(100));
-    assert_eq!(rt; source.take(&mut into, 100_000), Taken::Got(65_536));
-    assert_eq!(rt; source.take(&mut into, 100_000), Taken::Got(4364));
-    assert_eq!(rt; source.take(&mut into, 100_000), Taken::End);
+    for (max, expected) in [
+        (100, Taken::Got(100)),
+        (100_000, Taken::Got(65_536)),
+        (100_000, Taken::Got(4364)),
+        (100_000, Taken::End),
+    ] {
+        assert_taken(&rt, &mut source, &mut into, max, expected);
+    }
     assert_eq!(rt; into.as_slice(), bytes.as_slice());
     assert_eq!(rt; source.faults, 0);
     Ok(())
@@ -41,7 +67,7 @@ fn reads_to_the_end(rt: HostRuntime) -> Result<(), Fail> {
 fn a_failed_read_counts(rt: HostRuntime) -> Result<(), Fail> {
     let mut source = InputSource::new(rt.alloc(), Broken)?;
     let mut into = Vec::new(rt.alloc());
-    assert_eq!(rt; source.take(&mut into, 100), Taken::Failed);
+    assert_taken(&rt, &mut source, &mut into, 100, Taken::Failed);
     assert_eq!(rt; source.faults, 1);
     assert!(rt; into.is_empty());
     Ok(())
@@ -51,17 +77,17 @@ fn a_failed_read_counts(rt: HostRuntime) -> Result<(), Fail> {
 fn writes_what_fits(rt: HostRuntime) {
     let mut room = [0u8; 5];
     let mut sink = OutputSink::new(room.as_mut_slice());
-    assert_eq!(rt; sink.give(b"abc"), Given::Took(3));
-    assert_eq!(rt; sink.give(b"def"), Given::Took(2));
+    assert_given(&rt, &mut sink, b"abc", Given::Took(3));
+    assert_given(&rt, &mut sink, b"def", Given::Took(2));
     assert_eq!(rt; sink.faults, 0);
     // A write that takes nothing is a fault.
-    assert_eq!(rt; sink.give(b"f"), Given::Failed);
+    assert_given(&rt, &mut sink, b"f", Given::Failed);
     assert_eq!(rt; sink.faults, 1);
 }
 
 #[test]
 fn a_failed_write_counts(rt: HostRuntime) {
     let mut sink = OutputSink::new(Broken);
-    assert_eq!(rt; sink.give(b"abc"), Given::Failed);
+    assert_given(&rt, &mut sink, b"abc", Given::Failed);
     assert_eq!(rt; sink.faults, 1);
 }

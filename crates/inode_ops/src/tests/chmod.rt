@@ -1,47 +1,36 @@
 //! Outcomes of `chmod`.
 
-use super::{answer, at_b, at_root, below_a, name, quotas};
-use db_state::{QuotaList, Row};
-use hops_base::{InodeId, Key, NoMemory, Path};
-use name_space::{Call, Exception, Listing, Reply, Why};
+use super::answer;
+use super::places::{Spot, place_at};
+use hops_base::NoMemory;
+use name_space::{Call, Listing};
+use std::alloc::Global;
 use std::test::Fail;
+
+// What comes of it when the mode is to be 600.
+fn chmod(alloc: Global, spot: Spot, max_names: Option<u64>) -> Result<String, NoMemory> {
+    let place = place_at(alloc, spot)?;
+    let call = Call::Chmod(place.path.copy()?, 0o600);
+    answer(alloc, place, max_names, Listing::new(alloc), &call)
+}
 
 #[test]
 fn the_mode_alone_changes(rt: HostRuntime) -> Result<(), Fail> {
-    let alloc = rt.alloc();
-    let place = at_b(alloc)?;
-    let call = Call::Chmod(place.path.copy()?, 0o600);
-    let (reply, writes) = answer(alloc, place, quotas(alloc, 2)?, Listing::new(alloc), &call)?;
-    assert!(rt; matches!(reply, Reply::Truth(true)));
-    assert_eq!(rt; writes.len(), 1);
-    assert_eq!(rt; writes[0].0, Key::Inode(InodeId(5), name(alloc, "b")?));
-    let Some(Row::Inode(row)) = &writes[0].1 else {
-        return Err(NoMemory.into());
-    };
-    assert_eq!(rt; (row.mode, row.len), (0o600, 70));
-    assert_eq!(rt; row.owner.text(), "ann");
+    let line = chmod(rt.alloc(), Spot::FileBelow, Some(2))?;
+    assert_eq!(rt; line.as_str(), "true; 5/b 7 file 600 of ann with 70 bytes");
     Ok(())
 }
 
 #[test]
 fn the_root_keeps_its_mode(rt: HostRuntime) -> Result<(), Fail> {
-    let alloc = rt.alloc();
-    let call = Call::Chmod(Path::root(alloc), 0o600);
-    let none = QuotaList::new(alloc);
-    let (reply, writes) = answer(alloc, at_root(alloc)?, none, Listing::new(alloc), &call)?;
-    assert!(rt; matches!(reply, Reply::Refused(Exception::IO(Why::RootFixed))));
-    assert_eq!(rt; writes.len(), 0);
+    let line = chmod(rt.alloc(), Spot::Root, None)?;
+    assert_eq!(rt; line.as_str(), "IO(RootFixed)");
     Ok(())
 }
 
 #[test]
 fn a_missing_path_has_no_mode(rt: HostRuntime) -> Result<(), Fail> {
-    let alloc = rt.alloc();
-    let place = below_a(alloc)?;
-    let call = Call::Chmod(place.path.copy()?, 0o600);
-    let none = QuotaList::new(alloc);
-    let (reply, writes) = answer(alloc, place, none, Listing::new(alloc), &call)?;
-    assert!(rt; matches!(reply, Reply::Refused(Exception::FileNotFound)));
-    assert_eq!(rt; writes.len(), 0);
+    let line = chmod(rt.alloc(), Spot::NothingBelow, None)?;
+    assert_eq!(rt; line.as_str(), "FileNotFound");
     Ok(())
 }

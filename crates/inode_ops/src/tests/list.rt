@@ -1,9 +1,9 @@
 //! Outcomes of `list`.
 
-use super::{answer, at_b, at_root, name, quotas};
-use db_state::QuotaList;
-use hops_base::{NoMemory, Path, User};
-use name_space::{Call, FileStatus, Listed, Listing, Reply};
+use super::answer;
+use super::places::{Spot, name, place_at};
+use hops_base::{NoMemory, User};
+use name_space::{Call, FileStatus, Listed, Listing};
 use std::alloc::Global;
 use std::test::Fail;
 
@@ -21,46 +21,30 @@ fn one_child(alloc: Global) -> Result<Listing, NoMemory> {
     Ok(children)
 }
 
+// What comes of it, where these children were read.
+fn list(
+    alloc: Global,
+    spot: Spot,
+    max_names: Option<u64>,
+    children: Listing,
+) -> Result<String, NoMemory> {
+    let place = place_at(alloc, spot)?;
+    let call = Call::List(place.path.copy()?);
+    answer(alloc, place, max_names, children, &call)
+}
+
 #[test]
 fn a_file_is_listed_alone(rt: HostRuntime) -> Result<(), Fail> {
     let alloc = rt.alloc();
-    let place = at_b(alloc)?;
-    let call = Call::List(place.path.copy()?);
-    let (reply, writes) = answer(alloc, place, quotas(alloc, 2)?, Listing::new(alloc), &call)?;
-    assert_eq!(rt; writes.len(), 0);
-    let Reply::Entries(entries) = reply else {
-        return Err(NoMemory.into());
-    };
-    assert_eq!(rt; entries.len(), 1);
-    let file = entries.get(0);
-    assert_eq!(rt; file.map(|listed| listed.name.text()), Some("b"));
-    assert!(rt;
-        matches!(
-            file.map(|listed| &listed.status),
-            Some(FileStatus::File { len: 70, .. })
-        )
-    );
+    let line = list(alloc, Spot::FileBelow, Some(2), Listing::new(alloc))?;
+    assert_eq!(rt; line.as_str(), "b: file 640 of ann with 70 bytes");
     Ok(())
 }
 
 #[test]
 fn a_directory_is_listed_by_its_children(rt: HostRuntime) -> Result<(), Fail> {
     let alloc = rt.alloc();
-    let call = Call::List(Path::root(alloc));
-    let none = QuotaList::new(alloc);
-    let (reply, writes) = answer(alloc, at_root(alloc)?, none, one_child(alloc)?, &call)?;
-    assert_eq!(rt; writes.len(), 0);
-    let Reply::Entries(entries) = reply else {
-        return Err(NoMemory.into());
-    };
-    assert_eq!(rt; entries.len(), 1);
-    let child = entries.get(0);
-    assert_eq!(rt; child.map(|listed| listed.name.text()), Some("a"));
-    assert!(rt;
-        matches!(
-            child.map(|listed| &listed.status),
-            Some(FileStatus::Dir { mode: 0o755, .. })
-        )
-    );
+    let line = list(alloc, Spot::Root, None, one_child(alloc)?)?;
+    assert_eq!(rt; line.as_str(), "a: directory 755 of ann");
     Ok(())
 }

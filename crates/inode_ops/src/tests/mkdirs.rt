@@ -1,67 +1,48 @@
 //! Outcomes of `mkdirs`.
 
-use super::{answer, at_a, below_a, below_root, name, quotas};
-use db_state::{QuotaList, Row};
-use hops_base::{InodeId, Key, NoMemory};
-use inode_table::Kind;
-use name_space::{Call, Exception, Listing, Reply};
+use super::answer;
+use super::places::{Spot, place_at};
+use hops_base::NoMemory;
+use name_space::{Call, Listing};
+use std::alloc::Global;
 use std::test::Fail;
+
+fn mkdirs(alloc: Global, spot: Spot, max_names: Option<u64>) -> Result<String, NoMemory> {
+    let place = place_at(alloc, spot)?;
+    let call = Call::Mkdirs(place.path.copy()?);
+    answer(alloc, place, max_names, Listing::new(alloc), &call)
+}
 
 #[test]
 fn missing_directories_are_made_from_the_top(rt: HostRuntime) -> Result<(), Fail> {
-    let alloc = rt.alloc();
-    let place = below_root(alloc)?;
-    let call = Call::Mkdirs(place.path.copy()?);
-    let (reply, writes) = answer(alloc, place, quotas(alloc, 2)?, Listing::new(alloc), &call)?;
-    assert!(rt; matches!(reply, Reply::Truth(true)));
-    assert_eq!(rt; writes.len(), 2);
-    assert_eq!(rt; writes[0].0, Key::Inode(InodeId(1), name(alloc, "a")?));
-    assert_eq!(rt; writes[1].0, Key::Inode(InodeId(9), name(alloc, "b")?));
-    let Some(Row::Inode(row)) = &writes[1].1 else {
-        return Err(NoMemory.into());
-    };
-    assert_eq!(rt; (row.id, row.mode), (InodeId(10), 0o755));
-    assert_eq!(rt; row.owner.text(), "bob");
+    let line = mkdirs(rt.alloc(), Spot::NothingFound, Some(2))?;
+    assert_eq!(rt;
+        line.as_str(),
+        "true; 1/a 9 directory 755 of bob; 9/b 10 directory 755 of bob"
+    );
     Ok(())
 }
 
 #[test]
 fn the_quota_row_above_is_raised(rt: HostRuntime) -> Result<(), Fail> {
-    let alloc = rt.alloc();
-    let place = below_a(alloc)?;
-    let call = Call::Mkdirs(place.path.copy()?);
-    let (reply, writes) = answer(alloc, place, quotas(alloc, 3)?, Listing::new(alloc), &call)?;
-    assert!(rt; matches!(reply, Reply::Truth(true)));
-    assert_eq!(rt; writes.len(), 2);
-    assert_eq!(rt; writes[0].0, Key::Inode(InodeId(5), name(alloc, "b")?));
-    assert_eq!(rt; writes[1].0, Key::Quota(InodeId(5)));
-    assert!(rt; matches!(&writes[1].1, Some(Row::Quota(quota)) if quota.used_names == 3));
+    let line = mkdirs(rt.alloc(), Spot::NothingBelow, Some(3))?;
+    assert_eq!(rt;
+        line.as_str(),
+        "true; 5/b 9 directory 755 of bob; quota 5 3 names, 70 bytes"
+    );
     Ok(())
 }
 
 #[test]
 fn a_full_quota_refuses(rt: HostRuntime) -> Result<(), Fail> {
-    let alloc = rt.alloc();
-    let place = below_a(alloc)?;
-    let call = Call::Mkdirs(place.path.copy()?);
-    let (reply, writes) = answer(alloc, place, quotas(alloc, 2)?, Listing::new(alloc), &call)?;
-    assert_eq!(rt; writes.len(), 0);
-    let Reply::Refused(Exception::NSQuotaExceeded { at, used, limit }) = reply else {
-        return Err(NoMemory.into());
-    };
-    assert_eq!(rt; &*at.text()?, "/a");
-    assert_eq!(rt; (used, limit), (2, 2));
+    let line = mkdirs(rt.alloc(), Spot::NothingBelow, Some(2))?;
+    assert_eq!(rt; line.as_str(), "NSQuotaExceeded at /a: 2 of 2");
     Ok(())
 }
 
 #[test]
 fn a_file_is_in_the_way(rt: HostRuntime) -> Result<(), Fail> {
-    let alloc = rt.alloc();
-    let place = at_a(alloc, Kind::File, false)?;
-    let call = Call::Mkdirs(place.path.copy()?);
-    let none = QuotaList::new(alloc);
-    let (reply, writes) = answer(alloc, place, none, Listing::new(alloc), &call)?;
-    assert_eq!(rt; writes.len(), 0);
-    assert!(rt; matches!(reply, Reply::Refused(Exception::FileAlreadyExists)));
+    let line = mkdirs(rt.alloc(), Spot::File, None)?;
+    assert_eq!(rt; line.as_str(), "FileAlreadyExists");
     Ok(())
 }

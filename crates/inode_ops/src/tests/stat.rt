@@ -1,33 +1,28 @@
 //! Outcomes of `stat`.
 
-use super::{answer, at_b, below_a, quotas};
-use db_state::QuotaList;
+use super::answer;
+use super::places::{Spot, place_at};
 use hops_base::NoMemory;
-use name_space::{Call, Exception, FileStatus, Listing, Reply};
+use name_space::{Call, Listing};
+use std::alloc::Global;
 use std::test::Fail;
+
+fn stat(alloc: Global, spot: Spot, max_names: Option<u64>) -> Result<String, NoMemory> {
+    let place = place_at(alloc, spot)?;
+    let call = Call::Stat(place.path.copy()?);
+    answer(alloc, place, max_names, Listing::new(alloc), &call)
+}
 
 #[test]
 fn the_status_is_told(rt: HostRuntime) -> Result<(), Fail> {
-    let alloc = rt.alloc();
-    let place = at_b(alloc)?;
-    let call = Call::Stat(place.path.copy()?);
-    let (reply, _) = answer(alloc, place, quotas(alloc, 2)?, Listing::new(alloc), &call)?;
-    let Reply::Status(FileStatus::File { len, mode, owner }) = reply else {
-        return Err(NoMemory.into());
-    };
-    assert_eq!(rt; (len, mode), (70, 0o640));
-    assert_eq!(rt; owner.text(), "ann");
+    let line = stat(rt.alloc(), Spot::FileBelow, Some(2))?;
+    assert_eq!(rt; line.as_str(), "file 640 of ann with 70 bytes");
     Ok(())
 }
 
 #[test]
 fn a_missing_path_has_no_status(rt: HostRuntime) -> Result<(), Fail> {
-    let alloc = rt.alloc();
-    let place = below_a(alloc)?;
-    let call = Call::Stat(place.path.copy()?);
-    let none = QuotaList::new(alloc);
-    let (reply, writes) = answer(alloc, place, none, Listing::new(alloc), &call)?;
-    assert!(rt; matches!(reply, Reply::Refused(Exception::FileNotFound)));
-    assert_eq!(rt; writes.len(), 0);
+    let line = stat(rt.alloc(), Spot::NothingBelow, None)?;
+    assert_eq!(rt; line.as_str(), "FileNotFound");
     Ok(())
 }

@@ -1,174 +1,168 @@
 //! The text of each reply and each refusal.
 
+use super::{assert_text, name, path, user};
 use crate::reply_form::reply_value;
-use hops_base::{ClientNo, Name, Path, User};
+use hops_base::ClientNo;
 use name_space::{Exception, FileStatus, Listed, Listing, Reply, Why};
 use std::alloc::Global;
-use std::test::Fail;
+use std::process::Abort;
 
-fn reply_text(alloc: Global, reply: Reply) -> Result<String, Fail> {
-    Ok(reply_value(alloc, &reply)?.to_string(alloc)?)
+fn assert_reply(rt: &impl Abort, alloc: Global, reply: Reply, expected: &str) {
+    assert_text(rt, alloc, reply_value(alloc, &reply), expected);
+    // A call of its drop is proved sooner than a match over its kinds.
+    drop(reply);
 }
 
-fn refusal_text(alloc: Global, exception: Exception) -> Result<String, Fail> {
-    reply_text(alloc, Reply::Refused(exception))
+fn assert_refusal(rt: &impl Abort, alloc: Global, exception: Exception, expected: &str) {
+    assert_reply(rt, alloc, Reply::Refused(exception), expected);
 }
 
-fn dir_of(alloc: Global, owner: &str) -> Result<FileStatus, Fail> {
-    Ok(FileStatus::Dir {
+fn dir_of(rt: &impl Abort, alloc: Global, owner: &str) -> FileStatus {
+    FileStatus::Dir {
         mode: 493,
-        owner: User::read(alloc, owner)?,
-    })
+        owner: user(rt, alloc, owner),
+    }
 }
 
-fn file_of(alloc: Global, owner: &str, len: u64) -> Result<FileStatus, Fail> {
-    Ok(FileStatus::File {
+fn file_of(rt: &impl Abort, alloc: Global, owner: &str, len: u64) -> FileStatus {
+    FileStatus::File {
         len,
         mode: 420,
-        owner: User::read(alloc, owner)?,
-    })
+        owner: user(rt, alloc, owner),
+    }
 }
 
 // A child of this name and status.
-fn child(alloc: Global, name: &str, status: FileStatus) -> Result<Listed, Fail> {
-    Ok(Listed {
-        name: Name::read(alloc, name)?,
+fn child(rt: &impl Abort, alloc: Global, text: &str, status: FileStatus) -> Listed {
+    Listed {
+        name: name(rt, alloc, text),
         status,
-    })
+    }
 }
 
 #[test]
-fn truth_values(rt: HostRuntime) -> Result<(), Fail> {
+fn truth_values(rt: HostRuntime) {
     let alloc = rt.alloc();
-    assert_eq!(rt; reply_text(alloc, Reply::Truth(true))?.as_str(), "true");
-    assert_eq!(rt; reply_text(alloc, Reply::Truth(false))?.as_str(), "false");
-    Ok(())
+    assert_reply(&rt, alloc, Reply::Truth(true), "true");
+    assert_reply(&rt, alloc, Reply::Truth(false), "false");
 }
 
 #[test]
-fn a_status_of_a_directory(rt: HostRuntime) -> Result<(), Fail> {
+fn a_status_of_a_directory(rt: HostRuntime) {
     let alloc = rt.alloc();
-    let text = reply_text(alloc, Reply::Status(dir_of(alloc, "ann")?))?;
-    assert_eq!(rt;
-        text.as_str(),
-        "{\"kind\":\"dir\",\"mode\":493,\"owner\":\"ann\"}"
+    assert_reply(
+        &rt,
+        alloc,
+        Reply::Status(dir_of(&rt, alloc, "ann")),
+        "{\"kind\":\"dir\",\"mode\":493,\"owner\":\"ann\"}",
     );
-    Ok(())
 }
 
 #[test]
-fn a_status_of_a_file(rt: HostRuntime) -> Result<(), Fail> {
+fn a_status_of_a_file(rt: HostRuntime) {
     let alloc = rt.alloc();
-    let text = reply_text(alloc, Reply::Status(file_of(alloc, "bob", 5)?))?;
-    assert_eq!(rt;
-        text.as_str(),
-        "{\"kind\":\"file\",\"len\":5,\"mode\":420,\"owner\":\"bob\"}"
+    assert_reply(
+        &rt,
+        alloc,
+        Reply::Status(file_of(&rt, alloc, "bob", 5)),
+        "{\"kind\":\"file\",\"len\":5,\"mode\":420,\"owner\":\"bob\"}",
     );
-    Ok(())
 }
 
 #[test]
-fn an_empty_listing(rt: HostRuntime) -> Result<(), Fail> {
+fn an_empty_listing(rt: HostRuntime) {
     let alloc = rt.alloc();
-    let text = reply_text(alloc, Reply::Entries(Listing::new(alloc)))?;
-    assert_eq!(rt; text.as_str(), "{\"entries\":[]}");
-    Ok(())
+    let empty = Reply::Entries(Listing::new(alloc));
+    assert_reply(&rt, alloc, empty, "{\"entries\":[]}");
 }
 
 #[test]
-fn a_listing(rt: HostRuntime) -> Result<(), Fail> {
+fn a_listing(rt: HostRuntime) {
     let alloc = rt.alloc();
     let mut listing = Listing::new(alloc);
-    listing.reserve(2)?;
-    listing.push(child(alloc, "\"q\"", dir_of(alloc, "ann")?)?);
-    listing.push(child(alloc, "x", file_of(alloc, "bob", 7)?)?);
-    let text = reply_text(alloc, Reply::Entries(listing))?;
-    assert_eq!(rt;
-        text.as_str(),
-        "{\"entries\":[{\"kind\":\"dir\",\"mode\":493,\"name\":\"\\\"q\\\"\",\"owner\":\"ann\"},{\"kind\":\"file\",\"len\":7,\"mode\":420,\"name\":\"x\",\"owner\":\"bob\"}]}"
+    listing.reserve(2).expect(&rt, "room");
+    listing.push(child(&rt, alloc, "\"q\"", dir_of(&rt, alloc, "ann")));
+    listing.push(child(&rt, alloc, "x", file_of(&rt, alloc, "bob", 7)));
+    assert_reply(
+        &rt,
+        alloc,
+        Reply::Entries(listing),
+        "{\"entries\":[{\"kind\":\"dir\",\"mode\":493,\"name\":\"\\\"q\\\"\",\"owner\":\"ann\"},{\"kind\":\"file\",\"len\":7,\"mode\":420,\"name\":\"x\",\"owner\":\"bob\"}]}",
     );
-    Ok(())
 }
 
 #[test]
-fn usage(rt: HostRuntime) -> Result<(), Fail> {
+fn usage(rt: HostRuntime) {
     let used = Reply::Used {
         names: 4,
         bytes: 134_217_728,
         max_names: Some(100),
         max_bytes: None,
     };
-    let text = reply_text(rt.alloc(), used)?;
-    assert_eq!(rt;
-        text.as_str(),
-        "{\"bytes\":134217728,\"max_bytes\":null,\"max_names\":100,\"names\":4}"
+    assert_reply(
+        &rt,
+        rt.alloc(),
+        used,
+        "{\"bytes\":134217728,\"max_bytes\":null,\"max_names\":100,\"names\":4}",
     );
-    Ok(())
 }
 
 #[test]
-fn refusals_with_a_name_alone(rt: HostRuntime) -> Result<(), Fail> {
+fn refusals_with_a_name_alone(rt: HostRuntime) {
     let alloc = rt.alloc();
-    for (exception, expected) in [
-        (Exception::FileNotFound, "{\"refused\":\"FileNotFound\"}"),
-        (
-            Exception::FileAlreadyExists,
-            "{\"refused\":\"FileAlreadyExists\"}",
-        ),
-        (
-            Exception::ParentNotDirectory,
-            "{\"refused\":\"ParentNotDirectory\"}",
-        ),
-        (
-            Exception::PathIsNotEmptyDirectory,
-            "{\"refused\":\"PathIsNotEmptyDirectory\"}",
-        ),
-        (Exception::LeaseExpired, "{\"refused\":\"LeaseExpired\"}"),
-    ] {
-        assert_eq!(rt; refusal_text(alloc, exception)?.as_str(), expected);
-    }
-    Ok(())
-}
-
-#[test]
-fn another_writer(rt: HostRuntime) -> Result<(), Fail> {
-    let text = refusal_text(rt.alloc(), Exception::AlreadyBeingCreated(ClientNo(3)))?;
-    assert_eq!(rt;
-        text.as_str(),
-        "{\"refused\":\"AlreadyBeingCreated\",\"writer\":3}"
+    let missing = Exception::FileNotFound;
+    assert_refusal(&rt, alloc, missing, "{\"refused\":\"FileNotFound\"}");
+    let there = Exception::FileAlreadyExists;
+    assert_refusal(&rt, alloc, there, "{\"refused\":\"FileAlreadyExists\"}");
+    let parent = Exception::ParentNotDirectory;
+    assert_refusal(&rt, alloc, parent, "{\"refused\":\"ParentNotDirectory\"}");
+    let full = Exception::PathIsNotEmptyDirectory;
+    assert_refusal(
+        &rt,
+        alloc,
+        full,
+        "{\"refused\":\"PathIsNotEmptyDirectory\"}",
     );
-    Ok(())
+    let expired = Exception::LeaseExpired;
+    assert_refusal(&rt, alloc, expired, "{\"refused\":\"LeaseExpired\"}");
 }
 
 #[test]
-fn a_quota_on_names(rt: HostRuntime) -> Result<(), Fail> {
-    let alloc = rt.alloc();
-    let at = Path::read(alloc, "/q")?;
+fn another_writer(rt: HostRuntime) {
+    assert_refusal(
+        &rt,
+        rt.alloc(),
+        Exception::AlreadyBeingCreated(ClientNo(3)),
+        "{\"refused\":\"AlreadyBeingCreated\",\"writer\":3}",
+    );
+}
+
+#[test]
+fn a_quota_on_names(rt: HostRuntime) {
+    let at = path(&rt, rt.alloc(), "/q");
     let (used, limit) = (4, 2);
-    let text = refusal_text(alloc, Exception::NSQuotaExceeded { at, used, limit })?;
-    assert_eq!(rt;
-        text.as_str(),
-        "{\"at\":\"/q\",\"limit\":2,\"refused\":\"NSQuotaExceeded\",\"used\":4}"
+    assert_refusal(
+        &rt,
+        rt.alloc(),
+        Exception::NSQuotaExceeded { at, used, limit },
+        "{\"at\":\"/q\",\"limit\":2,\"refused\":\"NSQuotaExceeded\",\"used\":4}",
     );
-    Ok(())
 }
 
 #[test]
-fn a_quota_on_bytes(rt: HostRuntime) -> Result<(), Fail> {
-    let alloc = rt.alloc();
-    let at = Path::read(alloc, "/q/d")?;
+fn a_quota_on_bytes(rt: HostRuntime) {
+    let at = path(&rt, rt.alloc(), "/q/d");
     let (used, limit) = (11, 10);
-    let text = refusal_text(alloc, Exception::DSQuotaExceeded { at, used, limit })?;
-    assert_eq!(rt;
-        text.as_str(),
-        "{\"at\":\"/q/d\",\"limit\":10,\"refused\":\"DSQuotaExceeded\",\"used\":11}"
+    assert_refusal(
+        &rt,
+        rt.alloc(),
+        Exception::DSQuotaExceeded { at, used, limit },
+        "{\"at\":\"/q/d\",\"limit\":10,\"refused\":\"DSQuotaExceeded\",\"used\":11}",
     );
-    Ok(())
 }
 
 #[test]
-fn other_causes(rt: HostRuntime) -> Result<(), Fail> {
-    let alloc = rt.alloc();
+fn other_causes(rt: HostRuntime) {
     for (why, expected) in [
         (
             Why::Descendant,
@@ -182,7 +176,6 @@ fn other_causes(rt: HostRuntime) -> Result<(), Fail> {
         ),
         (Why::NoQuota, "{\"refused\":\"IO\",\"why\":\"NoQuota\"}"),
     ] {
-        assert_eq!(rt; refusal_text(alloc, Exception::IO(why))?.as_str(), expected);
+        assert_refusal(&rt, rt.alloc(), Exception::IO(why), expected);
     }
-    Ok(())
 }

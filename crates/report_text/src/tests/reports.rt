@@ -1,17 +1,18 @@
 //! Whole reports, line by line.
 
-ghost use Rattle.std.specs.Prelude.{◌≡◌, ◌≤◌, true, IfOk, length};
+ghost use Rattle.std.specs.Prelude.{◌≡◌, ◌≤◌, true, length};
 ghost use Rattle.std.specs.List.{list_all};
 ghost use Rattle.name_space.specs.Call.{is_valid};
 ghost use Rattle.name_space.specs.Script.{is_client};
 
+use super::{name, path, user};
 use crate::{AnswerList, Report, TreeList, report_of, write_report};
 use commit_log::{AnswerLine, Book, CallEnd, Note};
-use hops_base::{ClientNo, InodeId, Key, Mode, Name, NodeNo, Path, SessionId, StopList, User};
+use hops_base::{ClientNo, InodeId, Key, Mode, NoMemory, NodeNo, Path, SessionId, StopList, User};
 use name_space::{Call, Entry, FileStatus, Reply};
 use script_text::{CallList, ClientCalls, ClientList, Script};
 use std::alloc::Global;
-use std::test::Fail;
+use std::process::Abort;
 
 const NO_CLIENTS: &str =
     "{\"report\":1,\"script\":{\"clients\":[],\"grace\":64,\"namenodes\":1,\"persist\":true,\"stops\":[],\"tries\":10000,\"version\":1}}
@@ -62,39 +63,40 @@ fn plain(alloc: Global, clients: ClientList) -> Script
 }
 
 // The client `ann` with these calls.
-fn ann(alloc: Global, calls: CallList) -> Result<ClientList, Fail>
+fn ann(rt: &impl Abort, alloc: Global, calls: CallList) -> ClientList
     requires number { length calls.items ≤ 65536 }
     requires valid { list_all is_valid calls.items ≡ true }
-    ensures { IfOk result (λ clients. (length clients.items ≤ 64) × (list_all is_client clients.items ≡ true)) }
+    ensures number { length result.items ≤ 64 }
+    ensures clients { list_all is_client result.items ≡ true }
 {
-    let user = User::read(alloc, "ann")?;
+    let user = user(rt, alloc, "ann");
     let _good = user.text();
     let mut clients = ClientList::new(alloc);
-    clients.reserve(1)?;
+    clients.reserve(1).expect(rt, "room");
     clients.push(ClientCalls::new(user, calls));
-    Ok(clients)
+    clients
 }
 
 // The calls `mkdirs /a/b` and `stat /a/b`.
-fn two_calls(alloc: Global) -> Result<CallList, Fail>
-    ensures { IfOk result (λ calls. (length calls.items ≤ 65536) × (list_all is_valid calls.items ≡ true)) }
+fn two_calls(rt: &impl Abort, alloc: Global) -> CallList
+    ensures number { length result.items ≤ 65536 }
+    ensures valid { list_all is_valid result.items ≡ true }
 {
     let mut calls = CallList::new(alloc);
-    calls.reserve(2)?;
-    calls.push(Call::Mkdirs(Path::read(alloc, "/a/b")?));
-    calls.push(Call::Stat(Path::read(alloc, "/a/b")?));
-    Ok(calls)
+    calls.reserve(2).expect(rt, "room");
+    calls.push(Call::Mkdirs(Path::read(alloc, "/a/b").expect(rt, "a path")));
+    calls.push(Call::Stat(Path::read(alloc, "/a/b").expect(rt, "a path")));
+    calls
 }
 
-fn first_script(alloc: Global) -> Result<Script, Fail> {
-    Ok(plain(alloc, ann(alloc, two_calls(alloc)?)?))
+fn first_script(rt: &impl Abort, alloc: Global) -> Script {
+    plain(alloc, ann(rt, alloc, two_calls(rt, alloc)))
 }
 
 // Writes a note.
-fn write(book: &mut Book, note: Note) -> Result<(), Fail> {
-    book.reserve(1)?;
+fn write(rt: &impl Abort, book: &mut Book, note: Note) {
+    book.reserve(1).expect(rt, "room");
     book.push(note);
-    Ok(())
 }
 
 // The only client's call of this number is opened, in the session of its number.
@@ -103,9 +105,9 @@ fn opened(call: u32) -> Note {
 }
 
 // A session takes the key of an inode.
-fn took(alloc: Global, session: u64, parent: u64, name: &str, mode: Mode) -> Result<Note, Fail> {
-    let key = Key::Inode(InodeId(parent), Name::read(alloc, name)?);
-    Ok(Note::Took(SessionId(session), key, mode))
+fn took(rt: &impl Abort, alloc: Global, session: u64, place: (u64, &str), mode: Mode) -> Note {
+    let key = Key::Inode(InodeId(place.0), name(rt, alloc, place.1));
+    Note::Took(SessionId(session), key, mode)
 }
 
 // A session takes the key of the only client's reply.
@@ -113,119 +115,133 @@ fn took_reply(session: u64) -> Note {
     Note::Took(SessionId(session), Key::Reply(ClientNo(0)), Mode::Exclusive)
 }
 
-fn made(alloc: Global) -> Result<Note, Fail> {
-    let call = Call::Mkdirs(Path::read(alloc, "/a/b")?);
-    Ok(Note::Did(SessionId(1), ClientNo(0), 1, call, 1, Reply::Truth(true)))
+fn made(rt: &impl Abort, alloc: Global) -> Note {
+    let call = Call::Mkdirs(path(rt, alloc, "/a/b"));
+    Note::Did(SessionId(1), ClientNo(0), 1, call, 1, Reply::Truth(true))
 }
 
-fn told(alloc: Global) -> Result<Note, Fail> {
-    let call = Call::Stat(Path::read(alloc, "/a/b")?);
-    Ok(Note::Did(SessionId(2), ClientNo(0), 2, call, 2, status(alloc)?))
+fn told(rt: &impl Abort, alloc: Global) -> Note {
+    let call = Call::Stat(path(rt, alloc, "/a/b"));
+    Note::Did(SessionId(2), ClientNo(0), 2, call, 2, status(rt, alloc))
 }
 
-fn status(alloc: Global) -> Result<Reply, Fail> {
-    Ok(Reply::Status(FileStatus::Dir {
+fn status(rt: &impl Abort, alloc: Global) -> Reply {
+    Reply::Status(FileStatus::Dir {
         mode: 493,
-        owner: User::read(alloc, "ann")?,
-    }))
+        owner: user(rt, alloc, "ann"),
+    })
 }
 
-fn book_with_locks(alloc: Global) -> Result<Book, Fail> {
-    let mut book = Book::new(alloc);
-    write(&mut book, opened(1))?;
-    write(&mut book, took(alloc, 1, 0, "root", Mode::Exclusive)?)?;
-    write(&mut book, took(alloc, 1, 1, "a", Mode::Exclusive)?)?;
-    write(&mut book, took_reply(1))?;
-    write(&mut book, made(alloc)?)?;
-    write(&mut book, opened(2))?;
-    write(&mut book, took(alloc, 2, 2, "b", Mode::Shared)?)?;
-    write(&mut book, took_reply(2))?;
-    write(&mut book, told(alloc)?)?;
-    Ok(book)
+// The notes of the first call, with its locks.
+fn write_first(rt: &impl Abort, alloc: Global, book: &mut Book) {
+    write(rt, book, opened(1));
+    write(rt, book, took(rt, alloc, 1, (0, "root"), Mode::Exclusive));
+    write(rt, book, took(rt, alloc, 1, (1, "a"), Mode::Exclusive));
+    write(rt, book, took_reply(1));
+    write(rt, book, made(rt, alloc));
 }
 
-fn book_without_locks(alloc: Global) -> Result<Book, Fail> {
-    let mut book = Book::new(alloc);
-    write(&mut book, opened(1))?;
-    write(&mut book, made(alloc)?)?;
-    write(&mut book, opened(2))?;
-    write(&mut book, told(alloc)?)?;
-    Ok(book)
+// The notes of the second call, with its locks.
+fn write_second(rt: &impl Abort, alloc: Global, book: &mut Book) {
+    write(rt, book, opened(2));
+    write(rt, book, took(rt, alloc, 2, (2, "b"), Mode::Shared));
+    write(rt, book, took_reply(2));
+    write(rt, book, told(rt, alloc));
+}
+
+// The notes of both calls, without their locks.
+fn write_commits(rt: &impl Abort, alloc: Global, book: &mut Book) {
+    write(rt, book, opened(1));
+    write(rt, book, made(rt, alloc));
+    write(rt, book, opened(2));
+    write(rt, book, told(rt, alloc));
+}
+
+// The answer to a call, which rests on this note.
+fn answer(call: u32, note: u64, reply: Reply) -> AnswerLine {
+    let client = ClientNo(0);
+    let end = CallEnd::Done(note, reply);
+    AnswerLine { client, call, end }
 }
 
 // The answers to the two calls, which rest on these notes.
-fn answers(alloc: Global, first: u64, second: u64) -> Result<AnswerList, Fail> {
-    let client = ClientNo(0);
+fn answers(rt: &impl Abort, alloc: Global, first: u64, second: u64) -> AnswerList {
     let mut answers = AnswerList::new(alloc);
-    answers.reserve(2)?;
-    answers.push(AnswerLine {
-        client,
-        call: 1,
-        end: CallEnd::Done(first, Reply::Truth(true)),
-    });
-    answers.push(AnswerLine {
-        client,
-        call: 2,
-        end: CallEnd::Done(second, status(alloc)?),
-    });
-    Ok(answers)
+    answers.reserve(2).expect(rt, "room");
+    answers.push(answer(1, first, Reply::Truth(true)));
+    answers.push(answer(2, second, status(rt, alloc)));
+    answers
 }
 
-// A new directory at a path.
-fn dir(alloc: Global, path: &str, owner: &str) -> Result<(Path, Entry), Fail> {
-    let path = Path::read(alloc, path)?;
-    let entry = Entry::Dir {
+// A new directory of an owner.
+fn dir(rt: &impl Abort, alloc: Global, owner: &str) -> Entry {
+    Entry::Dir {
         mode: 493,
-        owner: User::read(alloc, owner)?,
+        owner: user(rt, alloc, owner),
         max_names: None,
         max_bytes: None,
-    };
-    Ok((path, entry))
+    }
 }
 
-fn tree(alloc: Global) -> Result<TreeList, Fail> {
+fn tree(rt: &impl Abort, alloc: Global) -> TreeList {
     let mut tree = TreeList::new(alloc);
-    tree.reserve(3)?;
-    tree.push(dir(alloc, "/", "hdfs")?);
-    tree.push(dir(alloc, "/a", "ann")?);
-    tree.push(dir(alloc, "/a/b", "ann")?);
-    Ok(tree)
+    tree.reserve(3).expect(rt, "room");
+    tree.push((path(rt, alloc, "/"), dir(rt, alloc, "hdfs")));
+    tree.push((path(rt, alloc, "/a"), dir(rt, alloc, "ann")));
+    tree.push((path(rt, alloc, "/a/b"), dir(rt, alloc, "ann")));
+    tree
 }
 
-#[test]
-fn a_report_with_locks(rt: HostRuntime) -> Result<(), Fail> {
-    let alloc = rt.alloc();
-    let script = first_script(alloc)?;
-    let book = book_with_locks(alloc)?;
-    let answers = answers(alloc, 4, 8)?;
-    let tree = tree(alloc)?;
-    let text = report_of(alloc, &script, &book, answers.as_slice(), tree.as_slice())?;
-    assert_eq!(rt; text.as_slice(), WITH_LOCKS.as_bytes());
-    Ok(())
-}
-
-#[test]
-fn a_report_without_locks(rt: HostRuntime) -> Result<(), Fail> {
-    let alloc = rt.alloc();
-    let script = first_script(alloc)?;
-    let book = book_without_locks(alloc)?;
-    let answers = answers(alloc, 1, 3)?;
-    let tree = tree(alloc)?;
-    let text = report_of(alloc, &script, &book, answers.as_slice(), tree.as_slice())?;
-    assert_eq!(rt; text.as_slice(), WITHOUT_LOCKS.as_bytes());
-    Ok(())
-}
-
-#[test]
-fn a_report_without_clients(rt: HostRuntime) -> Result<(), Fail> {
-    let alloc = rt.alloc();
+// The report without clients, of a namespace that has this root alone.
+fn empty_report(rt: &impl Abort, alloc: Global, root: Entry) -> Report {
+    let mut tree = TreeList::new(alloc);
+    tree.reserve(1).expect(rt, "room");
+    tree.push((Path::root(alloc), root));
     let script = plain(alloc, ClientList::new(alloc));
-    let mut tree = TreeList::new(alloc);
-    tree.reserve(1)?;
-    let entry = dir(alloc, "/", "hdfs")?.1;
-    tree.push((Path::root(alloc), entry));
-    let report = Report::new(script, Book::new(alloc), AnswerList::new(alloc), tree);
-    let text = write_report(alloc, &report)?;
-    assert_eq!(rt; text.as_slice(), NO_CLIENTS.as_bytes());
-    Ok(())
+    Report::new(script, Book::new(alloc), AnswerList::new(alloc), tree)
+}
+
+// Asserts that this is the report of the two calls, with this book and these answers.
+fn assert_report(
+    rt: &impl Abort,
+    alloc: Global,
+    book: &Book,
+    answers: &AnswerList,
+    expected: &str,
+) {
+    let script = first_script(rt, alloc);
+    let tree = tree(rt, alloc);
+    let text = report_of(alloc, &script, book, answers.as_slice(), tree.as_slice());
+    assert_bytes(rt, text, expected);
+}
+
+fn assert_bytes(rt: &impl Abort, bytes: Result<Vec<u8>, NoMemory>, expected: &str) {
+    let bytes = bytes.expect(rt, "a report");
+    assert_eq!(rt; bytes.as_slice(), expected.as_bytes());
+}
+
+#[test]
+fn a_report_with_locks(rt: HostRuntime) {
+    let alloc = rt.alloc();
+    let mut book = Book::new(alloc);
+    write_first(&rt, alloc, &mut book);
+    write_second(&rt, alloc, &mut book);
+    let answers = answers(&rt, alloc, 4, 8);
+    assert_report(&rt, alloc, &book, &answers, WITH_LOCKS);
+}
+
+#[test]
+fn a_report_without_locks(rt: HostRuntime) {
+    let alloc = rt.alloc();
+    let mut book = Book::new(alloc);
+    write_commits(&rt, alloc, &mut book);
+    let answers = answers(&rt, alloc, 1, 3);
+    assert_report(&rt, alloc, &book, &answers, WITHOUT_LOCKS);
+}
+
+#[test]
+fn a_report_without_clients(rt: HostRuntime) {
+    let alloc = rt.alloc();
+    let report = empty_report(&rt, alloc, dir(&rt, alloc, "hdfs"));
+    assert_bytes(&rt, write_report(alloc, &report), NO_CLIENTS);
 }

@@ -1,10 +1,10 @@
 use Rattle.std.proofs.Common.{refl, arith}
 use Rattle.std.specs.List.{IsDistinct}
-use Rattle.script_text.proofs.tests.a_script_with_everything_said.Goals as goal
+use Rattle.script_text.proofs.tests.all_said.Goals as goal
 
 pub new-script-requires : goal.new-script-requires
 unfolding IsDistinct
-new-script-requires g c =
+new-script-requires c =
     record {
       namenodes = (omega arith, omega arith);
       clients = rw c.new.ensures (omega arith, refl);
