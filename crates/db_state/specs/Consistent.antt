@@ -27,9 +27,9 @@ FlagsStay old new = (at : Key) → is_some (map.get new at) ≡ true → flag_at
 -- and the rows stand for that, with quota rows that count it; no operation runs yet, so no row bears a flag
 pub record IsConsistent (state : State) : Type 0 where
   pub tree : IsTree state.inodes state.next
-  pub numbered : IsNumbered state.inodes state.next state.users state.notes
-  pub legal : Legal state.users state.notes
-  pub names : IsNamespace (space state.users state.notes)
-  pub stands : Stands state.inodes state.quotas [] (space state.users state.notes)
-  pub counts : Counts state.inodes state.quotas (space state.users state.notes)
+  pub numbered : IsNumbered state.inodes state.next state.settings.users state.notes
+  pub legal : Legal state.settings.users state.notes
+  pub names : IsNamespace (space state.settings.users state.notes)
+  pub stands : Stands state.inodes state.quotas [] (space state.settings.users state.notes)
+  pub counts : Counts state.inodes state.quotas (space state.settings.users state.notes)
   pub flags : IsUnflagged state.inodes

@@ -17,6 +17,7 @@ use Rattle.commit_log.specs.IdLaws.{space-same, ids-quiet}
 use Rattle.commit_log.specs.Legal.{LegalIn, LegalAt, space, space-none}
 use Rattle.commit_log.specs.Parts.{did}
 use Rattle.commit_log.specs.Told.{cut_in}
+use Rattle.db_state.specs.Settings.{Settings}
 use Rattle.db_state.specs.State.{State, opening, opening_rows, root_row}
 use Rattle.db_state.specs.Spelled.{AreGiven, spelled}
 use Rattle.db_state.specs.Stands.{Stands}
@@ -33,16 +34,16 @@ given_up [] path is row e =
 given_up (name ∷ up) path is row e = absurd (let none = no_other name up in cc)
 
 -- before anything happened all of it is consistent
-pub opening_consistent : (users : List (List ℕ)) → IsConsistent (opening users)
-opening_consistent users = record {
+pub opening_consistent : (settings : Settings) → IsConsistent (opening settings)
+opening_consistent settings = record {
   tree = opening_tree;
   numbered = record {
-    given = subst (AreGiven opening_rows) (sym (ids-none users)) (λ path row e. given_up (reverse path) path refl row e);
-    least = ap (λ (n : Numbering). n.next) (sym (ids-none users));
+    given = subst (AreGiven opening_rows) (sym (ids-none settings.users)) (λ path row e. given_up (reverse path) path refl row e);
+    least = ap (λ (n : Numbering). n.next) (sym (ids-none settings.users));
   };
-  legal = Each-none (LegalAt users);
-  names = subst IsNamespace (sym (space-none users)) opening_is_a_namespace;
-  stands = subst (Stands opening_rows map.empty []) (sym (space-none users)) opening_stands;
+  legal = Each-none (LegalAt settings.users);
+  names = subst IsNamespace (sym (space-none settings.users)) opening_is_a_namespace;
+  stands = subst (Stands opening_rows map.empty []) (sym (space-none settings.users)) opening_stands;
   counts = λ path row quota there e. absurd (let none = map.get-empty {X = QuotaRow} key_cmp (key.Quota row.id) in cc);
   flags = λ at row e. ap (λ (r : Inode). r.flag) (only_root at row e).1;
 }
@@ -60,15 +61,15 @@ legal_quiet users old (Gone node ended) d c = tt
 -- what is consistent stays so with one note more that is neither a Did nor a Cut
 pub noted_consistent : (state : State) (note : Note) → IsConsistent state → did note ≡ None → cut_in note ≡ None → IsConsistent (committed state [] (note ∷ []))
 noted_consistent state note accord d c =
-    let same : space state.users (state.notes ++ note ∷ []) ≡ space state.users state.notes = space-same state.users state.notes note d c in
-    let kept : ids state.users (state.notes ++ note ∷ []) ≡ ids state.users state.notes = ids-quiet state.users state.notes note d c in
+    let same : space state.settings.users (state.notes ++ note ∷ []) ≡ space state.settings.users state.notes = space-same state.settings.users state.notes note d c in
+    let kept : ids state.settings.users (state.notes ++ note ∷ []) ≡ ids state.settings.users state.notes = ids-quiet state.settings.users state.notes note d c in
     record {
       tree = accord.tree;
       numbered = record {
         given = subst (AreGiven state.inodes) (sym kept) accord.numbered.given;
         least = accord.numbered.least ∙ ap (λ (n : Numbering). n.next) (sym kept);
       };
-      legal = Each-push (LegalAt state.users) state.notes note accord.legal (legal_quiet state.users (space state.users state.notes) note d c);
+      legal = Each-push (LegalAt state.settings.users) state.notes note accord.legal (legal_quiet state.settings.users (space state.settings.users state.notes) note d c);
       names = subst IsNamespace (sym same) accord.names;
       stands = subst (Stands state.inodes state.quotas []) (sym same) accord.stands;
       counts = subst (Counts state.inodes state.quotas) (sym same) accord.counts;

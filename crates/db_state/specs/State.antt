@@ -9,6 +9,7 @@ use Rattle.inode_table.specs.declared.inode.Inode.{Inode}
 use Rattle.inode_table.specs.declared.inode.Kind.TheVariants.{Dir}
 use Rattle.quota_table.specs.declared.quota.QuotaRow.{QuotaRow}
 use Rattle.commit_log.specs.declared.note.Note.{Note}
+use Rattle.db_state.specs.Settings.{Settings}
 
 -- the inode rows by their keys
 abbrev pub Inodes : Type 0
@@ -23,11 +24,11 @@ pub record Tables : Type 0 where
   pub inodes : Inodes
   pub quotas : Quotas
 
--- the rows of all tables, the users that the clients act for, the notes of the book, and the next free inode id
+-- the rows of all tables, what the run is set up with, the notes of the book, and the next free inode id
 pub record State : Type 0 where
   pub inodes : Inodes
   pub quotas : Quotas
-  pub users : List (List ℕ)
+  pub settings : Settings
   pub notes : List Note
   pub next : ℕ
 
@@ -47,5 +48,5 @@ root_row = new_dir 1 root_owner
 abbrev pub opening_rows : Inodes
 opening_rows = map.insert map.empty root_key root_row
 
-abbrev pub opening : List (List ℕ) → State
-opening users = record { inodes = opening_rows; quotas = map.empty; users = users; notes = []; next = 2 }
+abbrev pub opening : Settings → State
+opening settings = record { inodes = opening_rows; quotas = map.empty; settings = settings; notes = []; next = 2 }

@@ -44,15 +44,15 @@ impl Model for Db {
 
     ghost coded = { Prim.hlevel (codes, coded_rows {R = Inode}, coded_rows {R = QuotaRow}) };
 
-    ghost view = { λ d. record { inodes = d.tables.inodes.rows; quotas = d.tables.quotas.rows; users = d.settings.users; notes = d.book.notes; next = d.next } };
+    ghost view = { λ d. record { inodes = d.tables.inodes.rows; quotas = d.tables.quotas.rows; settings = d.settings; notes = d.book.notes; next = d.next } };
 
-    ghost invariant = { λ d. IsConsistent (record { inodes = d.tables.inodes.rows; quotas = d.tables.quotas.rows; users = d.settings.users; notes = d.book.notes; next = d.next }) × (d.top ≡ root_key) };
+    ghost invariant = { λ d. IsConsistent (record { inodes = d.tables.inodes.rows; quotas = d.tables.quotas.rows; settings = d.settings; notes = d.book.notes; next = d.next }) × (d.top ≡ root_key) };
 }
 
 impl Db {
-    /// The opening namespace, `/` alone, and an empty book, for the users of these settings.
+    /// The opening namespace, `/` alone, and an empty book, with these settings.
     pub fn start(alloc: Global, settings: &Settings) -> Result<Db, NoMemory>
-        ensures { IfOk result (λ db. db ≡ opening settings.now.users) }
+        ensures { IfOk result (λ db. db ≡ opening settings.now) }
     {
         let top = make_root_key(alloc)?;
         let key = top.copy()?;
@@ -94,7 +94,7 @@ impl Db {
 
     /// The user that a client acts for. None exactly where there is no such client.
     pub fn user(&self, client: ClientNo) -> Option<&User>
-        ensures { option_copied result ≡ slice_get self.now.users client.0 }
+        ensures { option_copied result ≡ slice_get self.now.settings.users client.0 }
     {
         self.settings.user(client)
     }

@@ -8,6 +8,7 @@ ghost use Rattle.inode_table.specs.declared.inode.Inode.{Inode};
 ghost use Rattle.inode_table.specs.declared.inode.Kind.TheVariants.{Dir};
 ghost use Rattle.name_space.specs.Namespace as space;
 ghost use Rattle.name_space.specs.Namespace.{Namespace, entry_at, with_entry};
+ghost use Rattle.db_state.specs.Settings.{Settings};
 ghost use Rattle.db_state.specs.State.{State, Tables, opening, opening_rows};
 ghost use Rattle.db_state.specs.Spelled.{Inodes, spelled, IsTree, AreGiven};
 ghost use Rattle.name_space.specs.Plain.{with_dirs};
@@ -63,7 +64,7 @@ pub fn a_chain_of_new_rows_adds_its_directories()
 
 /// Before anything happened the rows and the book accord.
 pub fn the_opening_is_consistent()
-    ensures { (users : List (List ℕ)) → IsConsistent (opening users) }
+    ensures { (settings : Settings) → IsConsistent (opening settings) }
 {}
 
 /// Where the rows and the book accord, they do so with one note more that is neither a Did nor a Cut.

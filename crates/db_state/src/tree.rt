@@ -15,7 +15,7 @@ use std::alloc::Global;
 
 /// The namespace in path order, `/` first, walked over the rows.
 pub fn tree_of(alloc: Global, db: &Db) -> Result<ItemList<(Path, Entry)>, NoMemory>
-    ensures { IfOk result (λ tree. tree.items ≡ space db.now.users db.now.notes) }
+    ensures { IfOk result (λ tree. tree.items ≡ space db.now.settings.users db.now.notes) }
 {
     db.accord();
     let mut tree = ItemList::new(alloc);

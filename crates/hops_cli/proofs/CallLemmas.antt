@@ -67,9 +67,9 @@ at_most state asked view reads small valid read =
 
 -- the answer is the plain call's
 pub answer_is : (state : State) (user : List ℕ) (asked : Call) (view : View) (reads : ℕ) (outcome : Outcome) (reply : Reply) (writes : Roomy (Key × Option Row)) → IsConsistent state → IsReady state user → is_built asked ≡ true → IsViewAt state asked view reads
-    → IsCallsTable view (client 0) user asked outcome → outcome ≡ Answer reply writes → IsAnswer (tables_of state) (space state.users state.notes) (client 0) user asked view reply writes.items
+    → IsCallsTable view (client 0) user asked outcome → outcome ≡ Answer reply writes → IsAnswer (tables_of state) (space state.settings.users state.notes) (client 0) user asked view reply writes.items
 answer_is state user asked view reads outcome reply writes kept ready small read table is =
-    subst (IsCallsTable view (client 0) user asked) is table (tables_of state) state.next (space state.users state.notes) None (record {
+    subst (IsCallsTable view (client 0) user asked) is table (tables_of state) state.next (space state.settings.users state.notes) None (record {
       tree = kept.tree;
       names = kept.names;
       stands = kept.stands;
@@ -79,7 +79,7 @@ answer_is state user asked view reads outcome reply writes kept ready small read
 
 -- the commit takes no more than a thousand ids
 pub few_ids : (state : State) (user : List ℕ) (asked : Call) (view : View) (reads : ℕ) (reply : Reply) (writes : List (Key × Option Row)) → is_built asked ≡ true → is_valid asked ≡ true → IsViewAt state asked view reads
-    → IsAnswer (tables_of state) (space state.users state.notes) (client 0) user asked view reply writes → next_after state.next writes ≤ state.next + 1000
+    → IsAnswer (tables_of state) (space state.settings.users state.notes) (client 0) user asked view reply writes → next_after state.next writes ≤ state.next + 1000
 few_ids state user asked view reads reply writes small valid read answer =
     let taken : next_after state.next writes ≤ state.next + sum_by length (paths_of asked) = subst (λ (n : ℕ). next_after n writes ≤ n + sum_by length (paths_of asked)) read.next answer.few in
     let most : sum_by length (paths_of asked) ≤ 1000 = at_most state asked view reads small valid read in
@@ -88,7 +88,7 @@ few_ids state user asked view reads reply writes small valid read answer =
 -- and with it the call is answered
 pub turned_by : (old new : State) (number : ℕ) (asked : Call) (reads : ℕ) (reply told : Reply) (notes : List Note) (writes : List (Key × Option Row)) (count : ℕ)
     → new ≡ committed old writes notes → notes ≡ opens_turn number ∷ does_turn number (record { call = asked; reads = reads; reply = reply }) ∷ [] → count ≡ length new.notes → told ≡ reply → next_after old.next writes ≤ old.next + 1000
-    → reads ≡ sum_by (rows_read (space old.users old.notes)) (paths_of asked) → IsTurned old new number asked (Done (count - 1) told)
+    → reads ≡ sum_by (rows_read (space old.settings.users old.notes)) (paths_of asked) → IsTurned old new number asked (Done (count - 1) told)
 turned_by old new number asked reads reply told notes writes count is are counted copied few read =
     let book : new.notes ≡ old.notes ++ opens_turn number ∷ does_turn number (record { call = asked; reads = reads; reply = reply }) ∷ [] = ap (λ (s : State). s.notes) is ∙ ap (λ (ns : List Note). old.notes ++ ns) are in
     let long : count ≡ length old.notes + 2 = counted ∙ ap length book ∙ length-append old.notes (opens_turn number ∷ does_turn number (record { call = asked; reads = reads; reply = reply }) ∷ []) in
@@ -100,7 +100,7 @@ turned_by old new number asked reads reply told notes writes count is are counte
       notes = book;
       told = ap (λ (n : ℕ). Done n told) last ∙ ap (Done (length old.notes + 1)) copied;
       counted = read;
-      users = ap (λ (s : State). s.users) is;
+      settings = ap (λ (s : State). s.settings) is;
       few = omega arith;
     }
 

@@ -43,7 +43,7 @@ limited inodes quotas row quota dir here limit =
     either false b (inr is) = is
 
 -- where no directory of the namespace has a quota, no inode has a quota row
-pub no_quota : (state : State) → IsConsistent state → IsLimitless (space state.users state.notes) → (id : InodeId) → quota_of state.quotas id ≡ None
+pub no_quota : (state : State) → IsConsistent state → IsLimitless (space state.settings.users state.notes) → (id : InodeId) → quota_of state.quotas id ≡ None
 no_quota state kept limitless id =
     (elim (quota_of state.quotas id) as (λ o. quota_of state.quotas id ≡ o → o ≡ None) [
       | None ↦ λ e. refl
@@ -52,10 +52,10 @@ no_quota state kept limitless id =
           let path = kept.tree.spelled of.at of.row of.there in
           let here : quota_of state.quotas of.row.id ≡ Some quota = subst (λ (i : InodeId). quota_of state.quotas i ≡ Some quota) (sym of.is) e in
           let row : row_of state.inodes (reverse path.0) ≡ Some of.row = ap (spelled state.inodes) (reverse-reverse path.0) ∙ path.1 in
-          let entry : entry_at (space state.users state.notes) (reverse path.0) ≡ Some (entry_of state.quotas of.row) =
+          let entry : entry_at (space state.settings.users state.notes) (reverse path.0) ≡ Some (entry_of state.quotas of.row) =
           kept.stands.entries (reverse path.0) ∙ ap (λ (o : Option Inode). option_or None (option_map (entry_of state.quotas) o)) row in
-          let none : has_limit (entry_at (space state.users state.notes) (reverse path.0)) ≡ false = limitless (reverse path.0) in
-          let some : has_limit (entry_at (space state.users state.notes) (reverse path.0)) ≡ true = ap has_limit entry ∙ limited state.inodes state.quotas of.row quota of.dir here of.limit in
+          let none : has_limit (entry_at (space state.settings.users state.notes) (reverse path.0)) ≡ false = limitless (reverse path.0) in
+          let some : has_limit (entry_at (space state.settings.users state.notes) (reverse path.0)) ≡ true = ap has_limit entry ∙ limited state.inodes state.quotas of.row quota of.dir here of.limit in
           cc)
     ]) refl
 
@@ -111,7 +111,7 @@ place_current inodes locked path place reads bare read = record {
 }
 
 -- the view that was read of the rows is current with them
-pub view_current : (state : State) (client : ClientNo) (asked : Call) (view : View) (reads : ℕ) → IsConsistent state → IsLimitless (space state.users state.notes) → is_built asked ≡ true → IsViewAt state asked view reads
+pub view_current : (state : State) (client : ClientNo) (asked : Call) (view : View) (reads : ℕ) → IsConsistent state → IsLimitless (space state.settings.users state.notes) → is_built asked ≡ true → IsViewAt state asked view reads
     → IsCurrent state.inodes state.quotas None client asked view
 view_current state client asked view reads kept limitless runnable read =
     let locked : List (Key × Mode) = plan client asked view.places.items in

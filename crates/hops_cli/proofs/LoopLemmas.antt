@@ -17,6 +17,7 @@ use Rattle.commit_log.specs.Legal.{space, space-push}
 use Rattle.commit_log.specs.Samples.{client}
 use Rattle.commit_log.specs.OneClient.{Turn, calls_made, opens_turn, does_turn, turns_book, turn_line, turns_lines}
 use Rattle.commit_log.specs.OneClientLaws.{turns_book-push, turns_lines-push, calls_made-push, length-turns_book}
+use Rattle.db_state.specs.Settings.{Settings}
 use Rattle.db_state.specs.State.{State}
 use Rattle.hops_cli.specs.Built.{is_built}
 use Rattle.hops_cli.specs.Run.{rows_read, TellsReads}
@@ -54,12 +55,12 @@ ready user calls count state lines runnable few so_far =
     let runs : list_all is_built (calls_made so_far.turns) ≡ true = ap (list_all is_built) so_far.made ∙ all_take count calls runnable in
     record {
       acts = ap (λ (users : List (List ℕ)). slice_get users 0) so_far.acting;
-      limitless = subst (λ (notes : List Note). IsLimitless (space state.users notes)) (sym so_far.notes) (turns_limitless state.users so_far.turns runs);
+      limitless = subst (λ (notes : List Note). IsLimitless (space state.settings.users notes)) (sym so_far.notes) (turns_limitless state.settings.users so_far.turns runs);
       room = omega arith;
     }
 
 -- the notes that open and answer it tell the rows read for its path
-read_more : (users : List (List ℕ)) (old new : State) (number : ℕ) (asked : Call) (end : CallEnd) → old.users ≡ users → Each (TellsReads users) old.notes → IsTurned old new number asked end → Each (TellsReads users) new.notes
+read_more : (users : List (List ℕ)) (old new : State) (number : ℕ) (asked : Call) (end : CallEnd) → old.settings.users ≡ users → Each (TellsReads users) old.notes → IsTurned old new number asked end → Each (TellsReads users) new.notes
 read_more users old new number asked end acting so_far turn =
     let this : Turn = record { call = asked; reads = turn.reads; reply = turn.reply } in
     let read : turn.reads ≡ sum_by (rows_read (space users (old.notes ++ opens_turn number ∷ []))) (paths_of asked) =
@@ -99,7 +100,7 @@ turned users calls count old new lines after asked end within is so_far turn pus
           ∙ ap (λ (l : AnswerLine). turns_lines 0 so_far.turns ++ l ∷ []) line
           ∙ sym (turns_lines-push so_far.turns this);
       reads = read_more users old new (count + 1) asked end so_far.acting so_far.reads turn;
-      acting = turn.users ∙ so_far.acting;
+      acting = ap (λ (s : Settings). s.users) turn.settings ∙ so_far.acting;
       few = omega arith;
     }
   where

@@ -15,18 +15,18 @@ use Rattle.hops_cli.specs.Reading.{IsPlaceOf, IsViewAt}
 use Rattle.hops_cli.specs.Run.{rows_read}
 
 -- the rows read for a path are those of the directories above it
-reads_of_place : (state : State) (path : Path) (place : Place) (reads : ℕ) → IsConsistent state → IsPlaceOf state.inodes path place reads → reads ≡ rows_read (space state.users state.notes) path
+reads_of_place : (state : State) (path : Path) (place : Place) (reads : ℕ) → IsConsistent state → IsPlaceOf state.inodes path place reads → reads ≡ rows_read (space state.settings.users state.notes) path
 reads_of_place state path place reads kept read =
-    let rows : length place.found.items + length (option_to_list place.missing) ≡ rows_read (space state.users state.notes) place.path + 1 =
-    rows_of_place state.inodes state.next kept.tree state.quotas (space state.users state.notes) kept.stands place read.spells read.there read.gone in
+    let rows : length place.found.items + length (option_to_list place.missing) ≡ rows_read (space state.settings.users state.notes) place.path + 1 =
+    rows_of_place state.inodes state.next kept.tree state.quotas (space state.settings.users state.notes) kept.stands place read.spells read.there read.gone in
     let counted : reads + 1 ≡ length place.found.items + length (option_to_list place.missing) = read.counted in
-    let same : reads ≡ rows_read (space state.users state.notes) place.path = omega arith in
-    same ∙ ap (rows_read (space state.users state.notes)) read.of
+    let same : reads ≡ rows_read (space state.settings.users state.notes) place.path = omega arith in
+    same ∙ ap (rows_read (space state.settings.users state.notes)) read.of
 
 -- so are those read for a call
-pub reads_of_view : (state : State) (asked : Call) (view : View) (reads : ℕ) → IsConsistent state → IsViewAt state asked view reads → reads ≡ sum_by (rows_read (space state.users state.notes)) (paths_of asked)
+pub reads_of_view : (state : State) (asked : Call) (view : View) (reads : ℕ) → IsConsistent state → IsViewAt state asked view reads → reads ≡ sum_by (rows_read (space state.settings.users state.notes)) (paths_of asked)
 reads_of_view state asked view reads kept read =
-    let one : reads ≡ rows_read (space state.users state.notes) read.path = reads_of_place state read.path read.place reads kept read.read in
-    let sum : sum_by (rows_read (space state.users state.notes)) (paths_of asked) ≡ rows_read (space state.users state.notes) read.path + 0 =
-    ap (sum_by (rows_read (space state.users state.notes))) read.one ∙ total-is (rows_read (space state.users state.notes)) (read.path ∷ []) in
+    let one : reads ≡ rows_read (space state.settings.users state.notes) read.path = reads_of_place state read.path read.place reads kept read.read in
+    let sum : sum_by (rows_read (space state.settings.users state.notes)) (paths_of asked) ≡ rows_read (space state.settings.users state.notes) read.path + 0 =
+    ap (sum_by (rows_read (space state.settings.users state.notes))) read.one ∙ total-is (rows_read (space state.settings.users state.notes)) (read.path ∷ []) in
     omega arith

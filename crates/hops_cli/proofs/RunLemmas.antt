@@ -75,14 +75,14 @@ run_one script one state lines tree small is done legal names shown =
 
 -- the run of a small script all of whose calls were answered
 pub run_all : (script : Script) (clients : List ClientCalls) (state : State) (notes : List Note) (lines : List AnswerLine) (tree : Namespace) → IsBuilt script → script.clients ≡ clients → AreAllTurned clients state lines
-    → Legal state.users state.notes → IsNamespace tree → notes ≡ state.notes → tree ≡ space state.users state.notes → IsRun script notes lines tree
+    → Legal state.settings.users state.notes → IsNamespace tree → notes ≡ state.notes → tree ≡ space state.settings.users state.notes → IsRun script notes lines tree
 run_all script [] state notes lines tree small is done legal names same shown =
-    let users : state.users ≡ users_of script = done.2 ∙ sym (ap (list_map (λ (c : ClientCalls). c.user)) is) in
+    let users : state.settings.users ≡ users_of script = done.2 ∙ sym (ap (list_map (λ (c : ClientCalls). c.user)) is) in
     run_none script notes lines tree small is (same ∙ done.0) done.1
     (subst (Legal (users_of script)) (sym same) (subst (λ (us : List (List ℕ)). Legal us state.notes) users legal)) names
     (shown ∙ ap (λ (us : List (List ℕ)). space us state.notes) users ∙ ap (space (users_of script)) (sym same))
 run_all script (one ∷ []) state notes lines tree small is done legal names same shown =
-    let users : state.users ≡ users_of script = done.acting ∙ sym (ap (list_map (λ (c : ClientCalls). c.user)) is) in
+    let users : state.settings.users ≡ users_of script = done.acting ∙ sym (ap (list_map (λ (c : ClientCalls). c.user)) is) in
     subst (λ (ns : List Note). IsRun script ns lines tree) (sym same)
     (run_one script one state lines tree small is done (subst (λ (us : List (List ℕ)). Legal us state.notes) users legal) names (shown ∙ ap (λ (us : List (List ℕ)). space us state.notes) users))
 run_all script (one ∷ other ∷ more) state notes lines tree small is done legal names same shown = absurd done

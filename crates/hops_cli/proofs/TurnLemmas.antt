@@ -30,12 +30,12 @@ use Rattle.inode_ops.specs.Table.{IsNumberedBy, IsAnswer}
 
 -- what is appended is a turn of the one client
 module _ (state : State) (user : List ℕ) (asked : Call) (number reads : ℕ) (reply : Reply)
-    (kept : IsConsistent state) (acts : slice_get state.users 0 ≡ Some user) where
+    (kept : IsConsistent state) (acts : slice_get state.settings.users 0 ≡ Some user) where
   abbrev before : Namespace
-  before = space state.users state.notes
+  before = space state.settings.users state.notes
 
   abbrev answered : Answered
-  answered = plain (space state.users state.notes) (client 0) user asked
+  answered = plain (space state.settings.users state.notes) (client 0) user asked
 
   abbrev turn : Turn
   turn = record { call = asked; reads = reads; reply = reply }
@@ -46,46 +46,46 @@ module _ (state : State) (user : List ℕ) (asked : Call) (number reads : ℕ) (
   abbrev after : List Note
   after = (state.notes ++ opens_turn number ∷ []) ++ does_turn number (record { call = asked; reads = reads; reply = reply }) ∷ []
 
-  same_space : space state.users (state.notes ++ opens_turn number ∷ []) ≡ space state.users state.notes
-  same_space = space-push state.users state.notes (opens_turn number)
+  same_space : space state.settings.users (state.notes ++ opens_turn number ∷ []) ≡ space state.settings.users state.notes
+  same_space = space-push state.settings.users state.notes (opens_turn number)
 
   -- the client acts for the user
-  applies : (old : Namespace) → applied state.users old (client 0) asked ≡ plain old (client 0) user asked
+  applies : (old : Namespace) → applied state.settings.users old (client 0) asked ≡ plain old (client 0) user asked
   applies old = ap (λ (o : Option (List ℕ)). plain old (client 0) (unwrap_or o []) asked) acts
 
-  new_space : space state.users after ≡ answered.space
+  new_space : space state.settings.users after ≡ answered.space
   new_space =
-      space-push state.users opened (does_turn number turn)
-      ∙ ap (λ (old : Namespace). (applied state.users old (client 0) asked).space) same_space
+      space-push state.settings.users opened (does_turn number turn)
+      ∙ ap (λ (old : Namespace). (applied state.settings.users old (client 0) asked).space) same_space
       ∙ ap (λ (a : Answered). a.space) (applies before)
 
-  legal_after : as_read reply ≡ answered.reply → Legal state.users after
+  legal_after : as_read reply ≡ answered.reply → Legal state.settings.users after
   legal_after told =
-      Each-push (LegalAt state.users) opened (does_turn number turn)
-      (Each-push (LegalAt state.users) state.notes (opens_turn number) kept.legal tt)
-      (told ∙ sym (ap (λ (a : Answered). a.reply) (applies before)) ∙ sym (ap (λ (old : Namespace). (applied state.users old (client 0) asked).reply) same_space))
+      Each-push (LegalAt state.settings.users) opened (does_turn number turn)
+      (Each-push (LegalAt state.settings.users) state.notes (opens_turn number) kept.legal tt)
+      (told ∙ sym (ap (λ (a : Answered). a.reply) (applies before)) ∙ sym (ap (λ (old : Namespace). (applied state.settings.users old (client 0) asked).reply) same_space))
 
-  new_ids : ids state.users after ≡ numbering_after (ids state.users state.notes) before answered.space (does_turn number turn)
+  new_ids : ids state.settings.users after ≡ numbering_after (ids state.settings.users state.notes) before answered.space (does_turn number turn)
   new_ids =
-      ids-push state.users opened (does_turn number turn)
-      ∙ ap (λ (n : Numbering). numbering_after n (space state.users opened) (applied state.users (space state.users opened) (client 0) asked).space (does_turn number turn)) (ids-quiet state.users state.notes (opens_turn number) refl refl)
-      ∙ ap (λ (old : Namespace). numbering_after (ids state.users state.notes) old (applied state.users old (client 0) asked).space (does_turn number turn)) same_space
-      ∙ ap (λ (a : Answered). numbering_after (ids state.users state.notes) before a.space (does_turn number turn)) (applies before)
+      ids-push state.settings.users opened (does_turn number turn)
+      ∙ ap (λ (n : Numbering). numbering_after n (space state.settings.users opened) (applied state.settings.users (space state.settings.users opened) (client 0) asked).space (does_turn number turn)) (ids-quiet state.settings.users state.notes (opens_turn number) refl refl)
+      ∙ ap (λ (old : Namespace). numbering_after (ids state.settings.users state.notes) old (applied state.settings.users old (client 0) asked).space (does_turn number turn)) same_space
+      ∙ ap (λ (a : Answered). numbering_after (ids state.settings.users state.notes) before a.space (does_turn number turn)) (applies before)
 
   -- the tables and the book after the commit are in accord
   pub consistent_next : (view : View) (writes : List (Key × Option Row)) (notes : List Note) → PlainKeepsANamespace → list_all (list_all is_name) (paths_of asked) ≡ true → view.next.0 ≡ state.next
-      → IsAnswer (tables_of state) (space state.users state.notes) (client 0) user asked view reply writes → notes ≡ opens_turn number ∷ does_turn number (record { call = asked; reads = reads; reply = reply }) ∷ []
+      → IsAnswer (tables_of state) (space state.settings.users state.notes) (client 0) user asked view reply writes → notes ≡ opens_turn number ∷ does_turn number (record { call = asked; reads = reads; reply = reply }) ∷ []
       → IsConsistent (committed state writes notes)
   consistent_next view writes notes keeps names next answer are =
       let tables : Tables = written (tables_of state) writes in
-      let first : IsNumberedBy (ids state.users state.notes) state.inodes view.next.0 (space state.users state.notes) = record {
-        all = ids-exists state.users state.notes;
+      let first : IsNumberedBy (ids state.settings.users state.notes) state.inodes view.next.0 (space state.settings.users state.notes) = record {
+        all = ids-exists state.settings.users state.notes;
         given = kept.numbered.given;
         least = next ∙ kept.numbered.least;
       } in
-      let numbered = answer.ids (ids state.users state.notes) (session number) number reads reply first in
+      let numbered = answer.ids (ids state.settings.users state.notes) (session number) number reads reply first in
       let long : state.notes ++ notes ≡ after = ap (λ (ns : List Note). state.notes ++ ns) are ∙ sym (append_assoc state.notes (opens_turn number ∷ []) (does_turn number turn ∷ [])) in
-      let there : IsConsistent (state_of tables state.users after (next_after view.next.0 writes)) = record {
+      let there : IsConsistent (state_of tables state.settings after (next_after view.next.0 writes)) = record {
         tree = answer.rows.tree;
         numbered = record {
           given = subst (AreGiven tables.inodes) (sym new_ids) numbered.given;
@@ -97,5 +97,5 @@ module _ (state : State) (user : List ℕ) (asked : Call) (number reads : ℕ) (
         counts = subst (Counts tables.inodes tables.quotas) (sym new_space) answer.rows.counts;
         flags = unflagged_stays state.inodes tables.inodes kept.flags answer.flags;
       } in
-      subst (λ (ns : List Note). IsConsistent (state_of tables state.users ns (next_after state.next writes))) (sym long)
-      (subst (λ (n : ℕ). IsConsistent (state_of tables state.users after (next_after n writes))) next there)
+      subst (λ (ns : List Note). IsConsistent (state_of tables state.settings ns (next_after state.next writes))) (sym long)
+      (subst (λ (n : ℕ). IsConsistent (state_of tables state.settings after (next_after n writes))) next there)

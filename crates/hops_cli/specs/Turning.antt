@@ -35,13 +35,13 @@ users_in clients = map (λ (c : ClientCalls). c.user) clients
 pub record IsNew (users : List (List ℕ)) (state : State) (lines : List AnswerLine) : Type 0 where
   pub book : state.notes ≡ []
   pub none : lines ≡ []
-  pub acting : state.users ≡ users
+  pub acting : state.settings.users ≡ users
   pub next : state.next ≡ 2
 
 -- the next call of the one client, whose user this is, can be answered
 pub record IsReady (state : State) (user : List ℕ) : Type 0 where
-  pub acts : slice_get state.users 0 ≡ Some user
-  pub limitless : IsLimitless (space state.users state.notes)
+  pub acts : slice_get state.settings.users 0 ≡ Some user
+  pub limitless : IsLimitless (space state.settings.users state.notes)
   pub room : state.next + 1000 < 2 ^ 64
 
 -- one commit opened and answered the call of this number, and tells the rows read for its path
@@ -50,8 +50,8 @@ pub record IsTurned (old new : State) (number : ℕ) (call : Call) (end : CallEn
   pub reply : Reply
   pub notes : new.notes ≡ old.notes ++ opens_turn number ∷ does_turn number (record { call = call; reads = reads; reply = reply }) ∷ []
   pub told : end ≡ Done (length old.notes + 1) reply
-  pub counted : reads ≡ sum_by (rows_read (space old.users old.notes)) (paths_of call)
-  pub users : new.users ≡ old.users
+  pub counted : reads ≡ sum_by (rows_read (space old.settings.users old.notes)) (paths_of call)
+  pub settings : new.settings ≡ old.settings
   pub few : new.next ≤ old.next + 1000
 
 -- so many of the calls have been answered, each telling the rows read for its path, and nothing else was written
@@ -61,11 +61,11 @@ pub record AreTurned (users : List (List ℕ)) (calls : List Call) (count : ℕ)
   pub notes : state.notes ≡ turns_book 0 turns
   pub told : lines ≡ turns_lines 0 turns
   pub reads : Each (TellsReads users) state.notes
-  pub acting : state.users ≡ users
+  pub acting : state.settings.users ≡ users
   pub few : state.next ≤ 2 + 1000 * count
 
 -- all calls of all clients have been answered: there is at most one
 abbrev pub AreAllTurned : List ClientCalls → State → List AnswerLine → Type 0
-AreAllTurned [] state lines = (state.notes ≡ []) × (lines ≡ []) × (state.users ≡ [])
+AreAllTurned [] state lines = (state.notes ≡ []) × (lines ≡ []) × (state.settings.users ≡ [])
 AreAllTurned (one ∷ []) state lines = AreTurned (one.user ∷ []) one.calls (length one.calls) state lines
 AreAllTurned (one ∷ other ∷ more) state lines = ⊥

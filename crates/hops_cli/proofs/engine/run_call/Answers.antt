@@ -13,7 +13,7 @@ outcome-requires c = viewed c.args.db.now c.args.user.now c.args.call.now c.in_o
 
 pub commit-requires-clause-accord : goal.commit-requires-clause-accord
 commit-requires-clause-accord c =
-    let answer : IsAnswer (tables_of c.args.db.now) (space c.args.db.now.users c.args.db.now.notes) (client 0) c.args.user.now c.args.call.now c.in_ok-view.view c.in-Answer.reply c.in-Answer.writes.items =
+    let answer : IsAnswer (tables_of c.args.db.now) (space c.args.db.now.settings.users c.args.db.now.notes) (client 0) c.args.user.now c.args.call.now c.in_ok-view.view c.in-Answer.reply c.in-Answer.writes.items =
     answer_is c.args.db.now c.args.user.now c.args.call.now c.in_ok-view.view c.in_ok-view.reads c.in_ok-reply.field-0 c.in-Answer.reply c.in-Answer.writes c.accord.ensures c.requires.ready c.requires.small c.in_ok-view.ensures c.in_ok-reply.ensures.table c.in-Answer.is in
     consistent_next c.args.db.now c.args.user.now c.args.call.now c.args.number c.in_ok-view.reads c.in-Answer.reply c.accord.ensures c.requires.ready.acts
     c.in_ok-view.view c.in-Answer.writes.items c.in_ok-notes.notes.items c.plain_keeps_a_namespace.ensures (names_good c.args.db.now c.args.call.now c.in_ok-view.view c.in_ok-view.reads c.in_ok-view.ensures) c.in_ok-view.ensures.next answer
@@ -21,7 +21,7 @@ commit-requires-clause-accord c =
 
 pub commit-requires-clause-ids : goal.commit-requires-clause-ids
 commit-requires-clause-ids c =
-    let answer : IsAnswer (tables_of c.args.db.now) (space c.args.db.now.users c.args.db.now.notes) (client 0) c.args.user.now c.args.call.now c.in_ok-view.view c.in-Answer.reply c.in-Answer.writes.items =
+    let answer : IsAnswer (tables_of c.args.db.now) (space c.args.db.now.settings.users c.args.db.now.notes) (client 0) c.args.user.now c.args.call.now c.in_ok-view.view c.in-Answer.reply c.in-Answer.writes.items =
     answer_is c.args.db.now c.args.user.now c.args.call.now c.in_ok-view.view c.in_ok-view.reads c.in_ok-reply.field-0 c.in-Answer.reply c.in-Answer.writes c.accord.ensures c.requires.ready c.requires.small c.in_ok-view.ensures c.in_ok-reply.ensures.table c.in-Answer.is in
     let few : next_after c.args.db.now.next c.in-Answer.writes.items ≤ c.args.db.now.next + 1000 = few_ids c.args.db.now c.args.user.now c.args.call.now c.in_ok-view.view c.in_ok-view.reads c.in-Answer.reply c.in-Answer.writes.items c.requires.small c.requires.valid c.in_ok-view.ensures answer in
     let room : c.args.db.now.next + 1000 < 2 ^ 64 = c.requires.ready.room in
@@ -29,7 +29,7 @@ commit-requires-clause-ids c =
 
 pub returns : goal.returns
 returns c =
-    let answer : IsAnswer (tables_of c.args.db.now) (space c.args.db.now.users c.args.db.now.notes) (client 0) c.args.user.now c.args.call.now c.in_ok-view.view c.in-Answer.reply c.in-Answer.writes.items =
+    let answer : IsAnswer (tables_of c.args.db.now) (space c.args.db.now.settings.users c.args.db.now.notes) (client 0) c.args.user.now c.args.call.now c.in_ok-view.view c.in-Answer.reply c.in-Answer.writes.items =
     answer_is c.args.db.now c.args.user.now c.args.call.now c.in_ok-view.view c.in_ok-view.reads c.in_ok-reply.field-0 c.in-Answer.reply c.in-Answer.writes c.accord.ensures c.requires.ready c.requires.small c.in_ok-view.ensures c.in_ok-reply.ensures.table c.in-Answer.is in
     turned_by c.args.db.now c.commit.new.self c.args.number c.args.call.now c.in_ok-view.reads c.in-Answer.reply c.in_ok-told.told c.in_ok-notes.notes.items c.in-Answer.writes.items c.len.result
     c.in_ok-commit.ensures.ok (rw (c.in_ok-notes.ensures.items, c.from.ensures, c.in_ok-copy.ensures) refl) (c.len.ensures ∙ ap length c.book.ensures) c.in_ok-told.ensures
