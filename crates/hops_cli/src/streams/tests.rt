@@ -1,3 +1,5 @@
+ghost use Rattle.std.specs.Prelude.{◌≤◌, length};
+
 use super::*;
 use std::io;
 use std::process::Abort;
@@ -30,17 +32,16 @@ fn assert_taken<R: Read>(
     into: &mut Vec<u8>,
     max: usize,
     expected: Taken,
-) {
+)
+    requires { 1 ≤ max }
+{
     assert_eq!(rt; source.take(into, max), expected);
 }
 
 // Asserts what the sink answers to these bytes.
-fn assert_given<W: Write>(
-    rt: &impl Abort,
-    sink: &mut OutputSink<W>,
-    bytes: &[u8],
-    expected: Given,
-) {
+fn assert_given<W: Write>(rt: &impl Abort, sink: &mut OutputSink<W>, bytes: &[u8], expected: Given)
+    requires { 1 ≤ length bytes.now }
+{
     assert_eq!(rt; sink.give(bytes), expected);
 }
 
@@ -50,14 +51,10 @@ fn reads_to_the_end(rt: HostRuntime) -> Result<(), Fail> {
     let bytes = vec![in alloc; b'x'; 70_000]?;
     let mut source = InputSource::new(alloc, bytes.as_slice())?;
     let mut into = Vec::new(alloc);
-    for (max, expected) in [
-        (100, Taken::Got(100)),
-        (100_000, Taken::Got(65_536)),
-        (100_000, Taken::Got(4364)),
-        (100_000, Taken::End),
-    ] {
-        assert_taken(&rt, &mut source, &mut into, max, expected);
-    }
+    assert_taken(&rt, &mut source, &mut into, 100, Taken::Got(100));
+    assert_taken(&rt, &mut source, &mut into, 100_000, Taken::Got(65_536));
+    assert_taken(&rt, &mut source, &mut into, 100_000, Taken::Got(4364));
+    assert_taken(&rt, &mut source, &mut into, 100_000, Taken::End);
     assert_eq!(rt; into.as_slice(), bytes.as_slice());
     assert_eq!(rt; source.faults, 0);
     Ok(())
