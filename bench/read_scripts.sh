@@ -6,9 +6,9 @@ top=$(cd "$(dirname "$0")/.." && pwd) || exit 1
 work=$(mktemp -d) || exit 1
 trap 'rm -rf "$work"' EXIT
 
-"$top/hops" gen 7 1 1 >/dev/null || exit 1
+HOPS_PROVED=1 "$top/hops" gen 7 1 1 >/dev/null || exit 1
 for clients in 8 16 32 64; do
-    "$top/hops" gen 7 "$clients" 5000 >"$work/script" || exit 1
+    "$top/crates/hops_cli/out/hops_cli" gen 7 "$clients" 5000 >"$work/script" || exit 1
     if [ "$clients" = 64 ]; then
         size=$(wc -c <"$work/script")
         head -c $((16777216 - size)) /dev/zero | tr '\0' ' ' >>"$work/script"

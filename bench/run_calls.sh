@@ -6,7 +6,7 @@ top=$(cd "$(dirname "$0")/.." && pwd) || exit 1
 work=$(mktemp -d) || exit 1
 trap 'rm -rf "$work"' EXIT
 
-"$top/hops" gen 7 1 1 >/dev/null || exit 1
+HOPS_PROVED=1 "$top/hops" gen 7 1 1 >/dev/null || exit 1
 long=$(printf '/a%.0s' $(seq 99))
 
 # The script of so many calls: the first makes the directory, the others look at a file there or make one each.

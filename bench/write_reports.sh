@@ -16,7 +16,7 @@ script() {
     }'
 }
 
-"$top/hops" gen 7 1 1 >/dev/null || exit 1
+HOPS_PROVED=1 "$top/hops" gen 7 1 1 >/dev/null || exit 1
 for long in 1 3 5 7; do
     script "$long" >"$work/script"
     command time -f '%e s, %M KiB' "$top/crates/hops_cli/out/hops_cli" run <"$work/script" >"$work/report" 2>"$work/said" || exit 1

@@ -165,7 +165,8 @@ def settle(window, counts):
 def main():
     numbers = [int(word) for word in sys.argv[1:]]
     randoms, mutants, seed = (numbers + [100_000, 10_000, 1][len(numbers):])[:3]
-    subprocess.run([os.path.join(TOP, "hops"), "gen", "1", "1", "1"], stdout=subprocess.DEVNULL, check=True)
+    proved = {**os.environ, "HOPS_PROVED": "1"}
+    subprocess.run([os.path.join(TOP, "hops"), "gen", "1", "1", "1"], env=proved, stdout=subprocess.DEVNULL, check=True)
     draw = random.Random(seed)
     scripts = list(seeds())
     run_all("extremes", extremes())

@@ -7,4 +7,4 @@ program=$top/crates/hops_cli/out/hops_cli
 work=$(mktemp -d) || exit 1
 trap 'rm -rf "$work"' EXIT
 cc -shared -fPIC -O1 -o "$work/fail.so" "$top/tools/$library.c" -ldl || exit 1
-"$top/hops" run <"$script" >"$work/whole" || exit 1
+HOPS_PROVED=1 "$top/hops" run <"$script" >"$work/whole" || exit 1

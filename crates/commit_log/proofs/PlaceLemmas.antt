@@ -4,9 +4,9 @@ use Rattle.std.specs.List.{list_any, filter, enumerate_from, after_first, positi
 use Rattle.std.specs.Option.{option_or}
 use Rattle.std.proofs.Common.{ap, ◌∙◌, arith}
 use Rattle.commit_log.specs.declared.note.Note.{Note}
-use Rattle.commit_log.specs.Parts.{passes, Flagging, flags_op}
+use Rattle.commit_log.specs.Parts.{passes, is_answer_of, Flagging, flags_op}
 use Rattle.commit_log.specs.Flags.{is_running}
-use Rattle.commit_log.specs.Places.{first_end, last_end, is_past, is_answer_of, reclaims_op}
+use Rattle.commit_log.specs.Places.{first_end, last_end, is_past, reclaims_op}
 use Rattle.commit_log.specs.Reads.{tells_history, journal_from}
 
 -- ---- one note more

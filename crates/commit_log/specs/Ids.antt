@@ -1,5 +1,5 @@
 -- The inode ids that a history gives to paths. This project's own.
-use Rattle.std.specs.Prelude.{◌≡◌, ℕ, ◌+◌, not, ◌&&◌, if◌then◌else◌, List, [], ◌∷◌, ◌++◌, map, Option, Some, None, is_some, option_map, codes, refl}
+use Rattle.std.specs.Prelude.{ℕ, ◌+◌, not, ◌&&◌, if◌then◌else◌, List, [], ◌∷◌, map, Option, Some, None, is_some, option_map, codes}
 use Rattle.std.specs.List.{filter, last_or}
 use Rattle.std.specs.FinMap.Entries as map
 use Rattle.hops_base.specs.declared.key.Key.{Key}
@@ -12,8 +12,8 @@ use Rattle.name_space.specs.Namespace.{Namespace, Path, exists, opening, prefixe
 use Rattle.name_space.specs.Plain.{last_name}
 use Rattle.name_space.specs.Rename.{moved_path, target_of}
 use Rattle.commit_log.specs.declared.note.Note.{Note}
-use Rattle.commit_log.specs.declared.note.Note.TheVariants.{Open, Took, Gave, Wrote, Did, Cut, Met, Gone}
-use Rattle.commit_log.specs.Legal.{space, space_after, space_from}
+use Rattle.commit_log.specs.declared.note.Note.TheVariants.{Did}
+use Rattle.commit_log.specs.Legal.{space, space_after}
 
 -- the id of each path, in path order, and the next id that no path was given
 pub record Numbering : Type 0 where
@@ -31,38 +31,24 @@ id_at numbering path = map.find path_cmp path numbering.ids
 -- these new paths take the next ids in turn
 abbrev pub with_new : Numbering → List Path → Numbering
 with_new numbering [] = numbering
-with_new numbering (path ∷ paths) = with_new (record { ids = map.put path_cmp path numbering.next numbering.ids; next = numbering.next + 1 }) paths
+with_new numbering (path ∷ paths) =
+    with_new (record { ids = map.put path_cmp path numbering.next numbering.ids; next = numbering.next + 1 }) paths
 
 -- the ids once some paths stand elsewhere
 abbrev pub placed : List (Path × ℕ) → List (Path × ℕ)
 placed [] = []
 placed (p ∷ ps) = map.put path_cmp p.0 p.1 (placed ps)
 
--- the source and the target of a call that moved something between these namespaces
+-- the source and the target of a call that moved something between these namespaces: a rename by which the source went
 abbrev pub move_of : Namespace → Namespace → Call → Option (Path × Path)
-move_of old new (call.Mkdirs path) = None
-move_of old new (call.Create path overwrite) = None
-move_of old new (call.Append path) = None
-move_of old new (call.Grow path bytes) = None
-move_of old new (call.Close path) = None
-move_of old new (call.Stat path) = None
-move_of old new (call.List path) = None
-move_of old new (call.Delete path recursive) = None
-move_of old new (call.Rename source destination) = if exists old source && not (exists new source) then Some (source, target_of old source destination) else None
-move_of old new (call.Chmod path mode) = None
-move_of old new (call.SetQuota path names bytes) = None
-move_of old new (call.Usage path) = None
+move_of old new (call.Rename source destination) =
+    if exists old source && not (exists new source) then Some (source, target_of old source destination) else None
+move_of old new call = None
 
 -- what a note moves between these namespaces
 abbrev pub move_in : Namespace → Namespace → Note → Option (Path × Path)
-move_in old new (Open s client number node) = None
-move_in old new (Took s key mode) = None
-move_in old new (Gave s) = None
-move_in old new (Wrote s work) = None
 move_in old new (Did s client number call reads reply) = move_of old new call
-move_in old new (Cut op path gone) = None
-move_in old new (Met s cause) = None
-move_in old new (Gone node ended) = None
+move_in old new note = None
 
 -- ids move along with their paths
 abbrev pub moved_ids : Option (Path × Path) → List (Path × ℕ) → List (Path × ℕ)
@@ -80,31 +66,15 @@ numbering_after numbering old new note =
     with_new (record { ids = filter (λ (p : Path × ℕ). exists new p.0) (moved_ids (move_in old new note) numbering.ids); next = numbering.next })
     (unnumbered (moved_ids (move_in old new note) numbering.ids) new)
 
+-- the numbering after these notes
 abbrev pub numbering_from : List (List ℕ) → Numbering → Namespace → List Note → Numbering
 numbering_from users numbering old [] = numbering
-numbering_from users numbering old (note ∷ notes) = numbering_from users (numbering_after numbering old (space_after users old note) note) (space_after users old note) notes
+numbering_from users numbering old (note ∷ notes) =
+    numbering_from users (numbering_after numbering old (space_after users old note) note) (space_after users old note) notes
 
 -- the ids at the end of these notes
 unfoldable pub ids : List (List ℕ) → List Note → Numbering
 ids users notes = numbering_from users first_numbering opening notes
-
-numbering_from-push : (users : List (List ℕ)) (numbering : Numbering) (old : Namespace) (notes : List Note) (note : Note)
-    → numbering_from users numbering old (notes ++ note ∷ [])
-    ≡ numbering_after (numbering_from users numbering old notes) (space_from users old notes) (space_after users (space_from users old notes) note) note
-numbering_from-push users numbering old [] note = refl
-numbering_from-push users numbering old (n ∷ notes) note =
-    numbering_from-push users (numbering_after numbering old (space_after users old n) n) (space_after users old n) notes note
-
--- one note more
-pub ids-push : (users : List (List ℕ)) (notes : List Note) (note : Note)
-    → ids users (notes ++ note ∷ []) ≡ numbering_after (ids users notes) (space users notes) (space_after users (space users notes) note) note
-unfolding ids space
-ids-push users notes note = numbering_from-push users first_numbering opening notes note
-
--- no notes
-pub ids-none : (users : List (List ℕ)) → ids users [] ≡ first_numbering
-unfolding ids
-ids-none users = refl
 
 -- the longest prefix of a path that exists
 abbrev pub nearest_path : Namespace → Path → Option Path
@@ -115,5 +85,6 @@ abbrev pub inode_key_under : Numbering → Path → Option Path → Option Key
 inode_key_under numbering path None = Some (key.Inode (record { 0 = 0 }) (codes "root"))
 inode_key_under numbering path (Some up) = option_map (λ id. key.Inode (record { 0 = id }) (last_name path)) (id_at numbering up)
 
+-- the same of a path alone
 abbrev pub inode_key : Numbering → Path → Option Key
 inode_key numbering path = inode_key_under numbering path (parent_of path)

@@ -1,5 +1,5 @@
 -- The history that a book tells: its Did and Cut notes are calls on a plain namespace, one after another. This project's own.
-use Rattle.std.specs.Prelude.{◌≡◌, ℕ, List, [], ◌∷◌, ◌++◌, refl, slice_get, unwrap_or, ⊤}
+use Rattle.std.specs.Prelude.{◌≡◌, ℕ, List, [], ◌∷◌, slice_get, unwrap_or, ⊤}
 use Rattle.std.specs.List.Sorted.{IsStrictlySortedBy}
 use Rattle.hops_base.specs.declared.ids.ClientNo.{ClientNo}
 use Rattle.hops_base.specs.Path.{path_cmp}
@@ -36,20 +36,6 @@ space_from users space (note ∷ notes) = space_from users (space_after users sp
 unfoldable pub space : List (List ℕ) → List Note → Namespace
 space users notes = space_from users opening notes
 
-space_from-push : (users : List (List ℕ)) (old : Namespace) (notes : List Note) (note : Note) → space_from users old (notes ++ note ∷ []) ≡ space_after users (space_from users old notes) note
-space_from-push users old [] note = refl
-space_from-push users old (n ∷ notes) note = space_from-push users (space_after users old n) notes note
-
--- one note more
-pub space-push : (users : List (List ℕ)) (notes : List Note) (note : Note) → space users (notes ++ note ∷ []) ≡ space_after users (space users notes) note
-unfolding space
-space-push users notes note = space_from-push users opening notes note
-
--- no notes
-pub space-none : (users : List (List ℕ)) → space users [] ≡ opening
-unfolding space
-space-none users = refl
-
 -- the namespace permits the note: a Did has the reply of its call there, and a Cut's paths rise and may go
 abbrev pub LegalIn : List (List ℕ) → Namespace → Note → Type 0
 LegalIn users space (Open s client number node) = ⊤
@@ -61,6 +47,7 @@ LegalIn users space (Cut op path gone) = IsStrictlySortedBy path_cmp gone.items 
 LegalIn users space (Met s cause) = ⊤
 LegalIn users space (Gone node ended) = ⊤
 
+-- the last namespace of the notes before permits the note
 abbrev pub LegalAt : List (List ℕ) → List Note → Note → Type 0
 LegalAt users before note = LegalIn users (space users before) note
 

@@ -1,27 +1,20 @@
 -- The locks that a book says are held, and when they are sound. This project's own.
-use Rattle.std.specs.Prelude.{◌≡◌, Bool, true, false, not, ◌&&◌, ◌||◌, ◌==◌, List, [], ◌∷◌, ◌++◌, refl}
-use Rattle.std.proofs.Common.{sym, ap, ◌∙◌, append_assoc, append-nil}
+use Rattle.std.specs.Prelude.{◌≡◌, Bool, true, false, not, ◌&&◌, ◌||◌, ◌==◌, List, [], ◌∷◌, ◌++◌}
 use Rattle.std.specs.List.{filter, list_any, list_all}
 use Rattle.std.specs.Ordering.{is_lt}
 use Rattle.hops_base.specs.declared.ids.SessionId.{SessionId}
 use Rattle.hops_base.specs.declared.ids.Mode.{Mode}
 use Rattle.hops_base.specs.declared.ids.Mode.TheVariants.{Shared, Exclusive}
-use Rattle.hops_base.specs.declared.ids.NodeNo.{NodeNo}
 use Rattle.hops_base.specs.declared.key.Key.{Key}
 use Rattle.hops_base.specs.Key.{key_cmp, same_key}
 use Rattle.commit_log.specs.declared.note.Note.{Note}
 use Rattle.commit_log.specs.declared.note.Note.TheVariants.{Open, Took, Gave, Wrote, Did, Cut, Met, Gone}
 use Rattle.commit_log.specs.Along.{Each}
-use Rattle.commit_log.specs.Parts.{passes, Opening, opening_of, Taking, took}
-use Rattle.commit_log.specs.Orderly.{Where}
+use Rattle.commit_log.specs.Parts.{Where, is_at, Taking, took}
 
 -- the lock is the session's
 abbrev pub is_of : SessionId → Taking → Bool
 is_of s lock = lock.session.0 == s.0
-
--- the session was opened at the namenode
-abbrev pub is_at : List Note → NodeNo → SessionId → Bool
-is_at notes node s = passes (λ (o : Opening). o.node.0 == node.0) (opening_of notes s)
 
 -- the locks after a note: a Took adds one; a Gave or a Did takes away those of its session; a Gone those of the
 -- sessions that were opened there before
@@ -44,22 +37,6 @@ held_from before locks (note ∷ notes) = held_from (before ++ note ∷ []) (hel
 unfoldable pub held : List Note → List Taking
 held notes = held_from [] [] notes
 
-held_from-push : (before : List Note) (locks : List Taking) (notes : List Note) (note : Note) → held_from before locks (notes ++ note ∷ []) ≡ held_after (before ++ notes) (held_from before locks notes) note
-held_from-push before locks [] note = ap (λ (b : List Note). held_after b locks note) (sym (append-nil before))
-held_from-push before locks (n ∷ notes) note =
-    held_from-push (before ++ n ∷ []) (held_after before locks n) notes note
-    ∙ ap (λ (b : List Note). held_after b (held_from (before ++ n ∷ []) (held_after before locks n) notes) note) (append_assoc before (n ∷ []) notes)
-
--- one note more
-pub held-push : (notes : List Note) (note : Note) → held (notes ++ note ∷ []) ≡ held_after notes (held notes) note
-unfolding held
-held-push notes note = held_from-push [] [] notes note
-
--- no notes
-pub held-none : held [] ≡ []
-unfolding held
-held-none = refl
-
 -- two locks on one key go together only where both are shared
 abbrev pub conflict : Mode → Mode → Bool
 conflict Shared Shared = false
@@ -80,5 +57,6 @@ SoundAt before note = Where (λ (t : Taking).
     (list_any (clashes t.session t.key t.mode) (held before) ≡ false)
     × (list_all (is_above t.session t.key) (held before) ≡ true)) (took note)
 
+-- every lock is taken so
 abbrev pub Sound : List Note → Type 0
 Sound notes = Each SoundAt notes

@@ -1,6 +1,7 @@
 -- A run of one client without locks: it makes its calls in turn at one namenode, and each is answered at once. This
 -- project's own.
 use Rattle.std.specs.Prelude.{◌≡◌, ℕ, ◌+◌, ◌*◌, ◌≤◌, List, [], ◌∷◌, map}
+use Rattle.hops_base.specs.Ids.{session, client, node}
 use Rattle.name_space.specs.declared.call.Call.{Call}
 use Rattle.name_space.specs.declared.reply.Reply.{Reply}
 use Rattle.name_space.specs.Calls.{as_read}
@@ -9,7 +10,6 @@ use Rattle.commit_log.specs.declared.note.Note.{Note}
 use Rattle.commit_log.specs.declared.note.Note.TheVariants.{Open, Did}
 use Rattle.commit_log.specs.declared.answer.AnswerLine.{AnswerLine}
 use Rattle.commit_log.specs.declared.answer.CallEnd.TheVariants.{Done}
-use Rattle.commit_log.specs.Samples.{session, client, node}
 
 -- a call, how many reads its resolutions made, and its reply
 pub record Turn : Type 0 where
@@ -17,10 +17,11 @@ pub record Turn : Type 0 where
   pub reads : ℕ
   pub reply : Reply
 
--- the calls of these turns, and their replies as they read
+-- the calls of these turns
 abbrev pub calls_made : List Turn → List Call
 calls_made turns = map (λ (turn : Turn). turn.call) turns
 
+-- the replies to them, as they read
 abbrev pub replies_told : List Turn → List Reply
 replies_told turns = map (λ (turn : Turn). as_read turn.reply) turns
 

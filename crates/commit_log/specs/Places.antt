@@ -5,8 +5,8 @@ use Rattle.hops_base.specs.declared.ids.SessionId.{SessionId}
 use Rattle.hops_base.specs.declared.ids.OpId.{OpId}
 use Rattle.hops_base.specs.declared.ids.NodeNo.{NodeNo}
 use Rattle.commit_log.specs.declared.note.Note.{Note}
-use Rattle.commit_log.specs.declared.note.Note.TheVariants.{Open, Took, Gave, Wrote, Did, Cut, Met, Gone}
-use Rattle.commit_log.specs.Parts.{passes, Opening, opened, Answering, did, reclaims}
+use Rattle.commit_log.specs.declared.note.Note.TheVariants.{Gave, Did}
+use Rattle.commit_log.specs.Parts.{passes, Opening, opened, reclaims_by}
 
 -- how many notes there are up to the first that passes the test
 abbrev pub first_end : (Note → Bool) → List Note → Option ℕ
@@ -18,36 +18,30 @@ abbrev pub last_end : (Note → Bool) → List Note → Option ℕ
 last_end test [] = None
 last_end test (note ∷ notes) = option_or (option_map (λ n. suc n) (last_end test notes)) (cond (test note) (Some 1) None)
 
--- the note opens the session at this namenode
-abbrev pub opens_at : SessionId → Note → Option NodeNo
-opens_at s note = option_and_then (λ (o : Opening). cond (o.session.0 == s.0) (Some o.node) None) (opened note)
+-- the namenode at which the note opens the session
+abbrev pub opening_node : SessionId → Note → Option NodeNo
+opening_node s note = option_and_then (λ (o : Opening). cond (o.session.0 == s.0) (Some o.node) None) (opened note)
 
 -- how many notes there are up to the opening of the session, and its namenode
 abbrev pub opening_end : SessionId → List Note → Option (ℕ × NodeNo)
 opening_end s [] = None
-opening_end s (note ∷ notes) = option_or (option_map (λ (node : NodeNo). (1, node)) (opens_at s note)) (option_map (λ (e : ℕ × NodeNo). (suc e.0, e.1)) (opening_end s notes))
+opening_end s (note ∷ notes) =
+    option_or (option_map (λ (node : NodeNo). (1, node)) (opening_node s note))
+    (option_map (λ (e : ℕ × NodeNo). (suc e.0, e.1)) (opening_end s notes))
 
 -- the session that gives all its locks back
 abbrev pub giver : Note → Option SessionId
-giver (Open s client number node) = None
-giver (Took s key mode) = None
 giver (Gave s) = Some s
-giver (Wrote s work) = None
 giver (Did s client number call reads reply) = Some s
-giver (Cut op path gone) = None
-giver (Met s cause) = None
-giver (Gone node ended) = None
+giver note = None
 
+-- the session gives all its locks back
 abbrev pub gives_all : SessionId → Note → Bool
 gives_all s note = passes (λ (g : SessionId). g.0 == s.0) (giver note)
 
--- the note is an answer of the session
-abbrev pub is_answer_of : SessionId → Note → Bool
-is_answer_of s note = passes (λ (a : Answering). a.session.0 == s.0) (did note)
-
 -- the note ends the operation from outside
 abbrev pub reclaims_op : OpId → Note → Bool
-reclaims_op op note = reclaims (λ s. true) op note
+reclaims_op op note = reclaims_by (λ s. true) op note
 
 -- both are there, and the last stands after the first
 abbrev pub is_past : Option ℕ → Option ℕ → Bool

@@ -64,9 +64,10 @@ pub record FlagsExactly (notes : List Note) (ops : List OpId) : Type 0 where
   pub rise : IsStrictlySortedBy op_cmp ops
   pub members : (op : OpId) → list_any (λ (o : OpId). o.0 == op.0) ops ≡ is_flagged notes op
 
--- sessions rise by their numbers, and namenodes by theirs
+-- sessions rise by their numbers
 abbrev pub session_cmp : SessionId → SessionId → Ordering
 session_cmp = on (λ (s : SessionId). s.0) nat_cmp
 
+-- namenodes rise by their numbers
 abbrev pub node_cmp : NodeNo → NodeNo → Ordering
 node_cmp = on (λ (node : NodeNo). node.0) nat_cmp

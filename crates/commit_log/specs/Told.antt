@@ -2,15 +2,15 @@
 use Rattle.std.specs.Prelude.{◌≡◌, Bool, true, false, List, Option, Some, None, IsSomeAnd}
 use Rattle.hops_base.specs.declared.ids.OpId.{OpId}
 use Rattle.name_space.specs.declared.call.OpKind.{OpKind}
-use Rattle.name_space.specs.declared.call.OpKind.TheVariants.{Delete, Rename, Quota}
+use Rattle.name_space.specs.declared.call.OpKind.TheVariants.{Delete}
 use Rattle.name_space.specs.Namespace.{Namespace, Path}
 use Rattle.name_space.specs.Script.{Script, users_of}
 use Rattle.commit_log.specs.declared.note.Note.{Note}
-use Rattle.commit_log.specs.declared.note.Note.TheVariants.{Open, Took, Gave, Wrote, Did, Cut, Met, Gone}
+use Rattle.commit_log.specs.declared.note.Note.TheVariants.{Cut}
 use Rattle.commit_log.specs.declared.answer.AnswerLine.{AnswerLine}
 use Rattle.commit_log.specs.Along.{Each}
-use Rattle.commit_log.specs.Parts.{Flagging, flag_of, loses}
-use Rattle.commit_log.specs.Orderly.{Orderly, Where}
+use Rattle.commit_log.specs.Parts.{Where, Flagging, flag_of, is_loss_of}
+use Rattle.commit_log.specs.Orderly.{Orderly}
 use Rattle.commit_log.specs.Legal.{Legal, space}
 use Rattle.commit_log.specs.Locks.{Sound}
 use Rattle.commit_log.specs.Flags.{was_since}
@@ -19,30 +19,24 @@ use Rattle.commit_log.specs.Answers.{Answers}
 
 -- an operation and the path that its cut names
 abbrev pub cut_in : Note → Option (OpId × Path)
-cut_in (Open s client number node) = None
-cut_in (Took s key mode) = None
-cut_in (Gave s) = None
-cut_in (Wrote s work) = None
-cut_in (Did s client number call reads reply) = None
 cut_in (Cut op path gone) = Some (op, path)
-cut_in (Met s cause) = None
-cut_in (Gone node ended) = None
+cut_in note = None
 
 -- the operation removes
 abbrev pub is_delete : OpKind → Bool
 is_delete Delete = true
-is_delete Rename = false
-is_delete Quota = false
+is_delete kind = false
 
 -- the namenode of the flag's session was gone since the flag was set
 abbrev pub was_lost : List Note → Flagging → Bool
-was_lost notes flag = was_since loses notes flag
+was_lost notes flag = was_since is_loss_of notes flag
 
 -- a cut has before it the flag of its operation, which removes at the cut's path and whose namenode is gone since
 abbrev pub ExplainedAt : List Note → Note → Type 0
 ExplainedAt before note = Where (λ (c : OpId × Path). IsSomeAnd (flag_of before c.0) (λ flag.
     (is_delete flag.kind ≡ true) × (flag.path ≡ c.1) × (was_lost before flag ≡ true))) (cut_in note)
 
+-- every cut is explained
 abbrev pub CutsExplained : List Note → Type 0
 CutsExplained notes = Each ExplainedAt notes
 

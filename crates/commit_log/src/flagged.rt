@@ -8,19 +8,20 @@ ghost use Rattle.std.specs.List.Sorted.{IsStrictlySortedBy};
 ghost use Rattle.std.specs.Option.{option_or};
 ghost use Rattle.hops_base.specs.declared.ids.OpId.{OpId};
 ghost use Rattle.hops_base.specs.declared.ids.SessionId.{SessionId};
-ghost use Rattle.commit_log.specs.Parts.{flagged, flags_op};
-ghost use Rattle.commit_log.specs.Places.{is_answer_of, is_past, reclaims_op};
+ghost use Rattle.commit_log.specs.Parts.{is_answer_of, flagged, flags_op};
+ghost use Rattle.commit_log.specs.Places.{reclaims_op};
 ghost use Rattle.commit_log.specs.Reads.{op_cmp, session_cmp, FlagsExactly};
-ghost use Rattle.commit_log.specs.Runs.{IsRuns, op_and_session, runs_on, runs_as};
+ghost use Rattle.commit_log.specs.FlagMarks.{IsFlagMarks, op_and_session, runs_on, runs_as};
 
 use crate::note::{Note, Work};
+use crate::places::is_past;
 use hops_base::{NoMemory, OpId, SessionId};
 use std::alloc::Global;
 use std::collections::{BTreeMap, BTreeSet};
 
 /// How many notes there are up to what tells which flags are set.
 #[derive(Drop)]
-pub struct Runs {
+pub struct FlagMarks {
     flagged: BTreeMap<OpId, u64>,
     reclaimed: BTreeMap<OpId, u64>,
     answered: BTreeMap<SessionId, u64>,
@@ -31,17 +32,20 @@ pub struct Runs {
 pub fn flagged_ops(alloc: Global, notes: &[Note]) -> Result<Vec<OpId>, NoMemory>
     ensures { IfOk result (λ ops. FlagsExactly notes.now ops.items) }
 {
-    let (runs, flags) = gather(alloc, notes)?;
-    let ops = running_ops(alloc, &runs, &flags)?;
-    in_order(alloc, ops)
+    let (marks, flags) = gather_flags(alloc, notes)?;
+    let ops = running_ops(alloc, &marks, &flags)?;
+    ops_in_order(alloc, ops)
 }
 
 // Gathers what sets and ends flags, and the operation and the session of each flag in their order.
-fn gather(alloc: Global, notes: &[Note]) -> Result<(Runs, Vec<(OpId, SessionId)>), NoMemory>
-    ensures runs { IfOk result (λ gathered. IsRuns notes.now gathered.0) }
+fn gather_flags(
+    alloc: Global,
+    notes: &[Note],
+) -> Result<(FlagMarks, Vec<(OpId, SessionId)>), NoMemory>
+    ensures marks { IfOk result (λ gathered. IsFlagMarks notes.now gathered.0) }
     ensures flags { IfOk result (λ gathered. gathered.1.items ≡ map op_and_session (filter_map flagged notes.now)) }
 {
-    let mut runs = Runs {
+    let mut marks = FlagMarks {
         flagged: BTreeMap::new(alloc),
         reclaimed: BTreeMap::new(alloc),
         answered: BTreeMap::new(alloc),
@@ -49,12 +53,12 @@ fn gather(alloc: Global, notes: &[Note]) -> Result<(Runs, Vec<(OpId, SessionId)>
     let mut flags = Vec::new(alloc);
     for (i, note) in notes.iter().enumerate() {
         let count = i as u64 + 1;
-        mark_flag(&mut runs.flagged, count, note)?;
-        mark_reclaim(&mut runs.reclaimed, count, note)?;
-        mark_answer(&mut runs.answered, count, note)?;
+        mark_flag(&mut marks.flagged, count, note)?;
+        mark_reclaim(&mut marks.reclaimed, count, note)?;
+        mark_answer(&mut marks.answered, count, note)?;
         add_flag(&mut flags, note)?;
     }
-    Ok((runs, flags))
+    Ok((marks, flags))
 }
 
 // Keeps how many notes there are up to the first flag of each operation.
@@ -102,14 +106,14 @@ fn add_flag(flags: &mut Vec<(OpId, SessionId)>, note: &Note) -> Result<(), NoMem
 // The operations of the flags that nothing has ended.
 fn running_ops(
     alloc: Global,
-    runs: &Runs,
+    marks: &FlagMarks,
     flags: &[(OpId, SessionId)],
 ) -> Result<BTreeSet<OpId>, NoMemory>
-    ensures { IfOk result (λ ops. (op : OpId) → sorted.contains op_cmp ops op ≡ list_any (runs_as runs.now op) flags.now) }
+    ensures { IfOk result (λ ops. (op : OpId) → sorted.contains op_cmp ops op ≡ list_any (runs_as marks.now op) flags.now) }
 {
     let mut ops = BTreeSet::new(alloc);
     for flag in flags {
-        add_running(&mut ops, runs, *flag)?;
+        add_running(&mut ops, marks, *flag)?;
     }
     Ok(ops)
 }
@@ -117,40 +121,30 @@ fn running_ops(
 // Adds the operation of the flag, where nothing has ended it.
 fn add_running(
     ops: &mut BTreeSet<OpId>,
-    runs: &Runs,
+    marks: &FlagMarks,
     flag: (OpId, SessionId),
 ) -> Result<(), NoMemory>
-    ensures ok { OnOk result ((op : OpId) → sorted.contains op_cmp ops.new op ≡ (sorted.contains op_cmp ops.old op || runs_as runs.now op flag)) }
+    ensures ok { OnOk result ((op : OpId) → sorted.contains op_cmp ops.new op ≡ (sorted.contains op_cmp ops.old op || runs_as marks.now op flag)) }
 {
     let (op, s) = flag;
-    if is_running(runs, op, s) {
+    if is_running(marks, op, s) {
         ops.insert(op)?;
     }
     Ok(())
 }
 
 // Whether nothing has ended the operation of the session since its flag.
-fn is_running(runs: &Runs, op: OpId, s: SessionId) -> bool
-    ensures { result ≡ runs_on runs.now op s }
+fn is_running(marks: &FlagMarks, op: OpId, s: SessionId) -> bool
+    ensures { result ≡ runs_on marks.now op s }
 {
-    let since = runs.flagged.get(&op).copied();
-    let reclaimed = runs.reclaimed.get(&op).copied();
-    let answered = runs.answered.get(&s).copied();
+    let since = marks.flagged.get(&op).copied();
+    let reclaimed = marks.reclaimed.get(&op).copied();
+    let answered = marks.answered.get(&s).copied();
     !is_past(since, reclaimed) && !is_past(since, answered)
 }
 
-// Whether both are there, and the last stands after the first.
-fn is_past(first: Option<u64>, last: Option<u64>) -> bool
-    ensures { result ≡ is_past first last }
-{
-    match (first, last) {
-        (Some(first), Some(last)) => first < last,
-        _ => false,
-    }
-}
-
 // The operations of the set, rising.
-fn in_order(alloc: Global, ops: BTreeSet<OpId>) -> Result<Vec<OpId>, NoMemory>
+fn ops_in_order(alloc: Global, ops: BTreeSet<OpId>) -> Result<Vec<OpId>, NoMemory>
     ensures items { IfOk result (λ v. v.items ≡ ops.keys) }
     ensures ordered { OnOk result (IsStrictlySortedBy op_cmp ops.keys) }
 {

@@ -7,19 +7,20 @@ ghost use Rattle.std.specs.List.Sorted.{IsPermutation, IsSorted, IsStable};
 ghost use Rattle.std.specs.Option.{option_or};
 ghost use Rattle.hops_base.specs.declared.ids.NodeNo.{NodeNo};
 ghost use Rattle.hops_base.specs.declared.ids.SessionId.{SessionId};
-ghost use Rattle.commit_log.specs.Parts.{loses};
-ghost use Rattle.commit_log.specs.Places.{gives_all, is_past, opens_at};
+ghost use Rattle.commit_log.specs.Parts.{is_loss_of};
+ghost use Rattle.commit_log.specs.Places.{gives_all, opening_node};
 ghost use Rattle.commit_log.specs.Reads.{lock_cmp, node_cmp, session_cmp, HoldsExactly};
-ghost use Rattle.commit_log.specs.Losses.{IsLosses, after, stays_on, taken_at, taken_from, is_lasting, lock_in};
+ghost use Rattle.commit_log.specs.LockMarks.{IsLockMarks, counted_at, stays_on, taken_at, taken_from, is_lasting, lock_in};
 
 use crate::note::Note;
+use crate::places::is_past;
 use hops_base::{Key, Mode, NoMemory, NodeNo, SessionId};
 use std::alloc::Global;
 use std::collections::BTreeMap;
 
 /// How many notes there are up to what tells which locks were given back.
 #[derive(Drop)]
-pub struct Losses {
+pub struct LockMarks {
     opened: BTreeMap<SessionId, (u64, NodeNo)>,
     gave: BTreeMap<SessionId, u64>,
     gone: BTreeMap<NodeNo, u64>,
@@ -37,17 +38,17 @@ pub struct Taken {
 pub fn held_locks(alloc: Global, notes: &[Note]) -> Result<Vec<(SessionId, Key, Mode)>, NoMemory>
     ensures { IfOk result (λ locks. HoldsExactly notes.now locks.items) }
 {
-    let (losses, takings) = gather(alloc, notes)?;
-    let locks = lasting_locks(alloc, &losses, takings)?;
-    in_order(locks)
+    let (marks, takings) = gather_locks(alloc, notes)?;
+    let locks = lasting_locks(alloc, &marks, takings)?;
+    locks_in_order(locks)
 }
 
 // Gathers what opens sessions and gives locks back, and the locks that were taken in their order.
-fn gather(alloc: Global, notes: &[Note]) -> Result<(Losses, Vec<Taken>), NoMemory>
-    ensures losses { IfOk result (λ gathered. IsLosses notes.now gathered.0) }
+fn gather_locks(alloc: Global, notes: &[Note]) -> Result<(LockMarks, Vec<Taken>), NoMemory>
+    ensures marks { IfOk result (λ gathered. IsLockMarks notes.now gathered.0) }
     ensures takings { IfOk result (λ gathered. gathered.1.items ≡ taken_from 0 notes.now) }
 {
-    let mut losses = Losses {
+    let mut marks = LockMarks {
         opened: BTreeMap::new(alloc),
         gave: BTreeMap::new(alloc),
         gone: BTreeMap::new(alloc),
@@ -55,12 +56,12 @@ fn gather(alloc: Global, notes: &[Note]) -> Result<(Losses, Vec<Taken>), NoMemor
     let mut takings = Vec::new(alloc);
     for (i, note) in notes.iter().enumerate() {
         let count = i as u64 + 1;
-        mark_opening(&mut losses.opened, count, note)?;
-        mark_giving(&mut losses.gave, count, note)?;
-        mark_loss(&mut losses.gone, count, note)?;
+        mark_opening(&mut marks.opened, count, note)?;
+        mark_giving(&mut marks.gave, count, note)?;
+        mark_loss(&mut marks.gone, count, note)?;
         add_taken(&mut takings, count, note)?;
     }
-    Ok((losses, takings))
+    Ok((marks, takings))
 }
 
 // Keeps how many notes there are up to the opening of each session, and its namenode.
@@ -69,7 +70,7 @@ fn mark_opening(
     count: u64,
     note: &Note,
 ) -> Result<(), NoMemory>
-    ensures ok { OnOk result ((s : SessionId) → get session_cmp opened.new s ≡ option_or (get session_cmp opened.old s) (option_map (after count) (opens_at s note.now))) }
+    ensures ok { OnOk result ((s : SessionId) → get session_cmp opened.new s ≡ option_or (get session_cmp opened.old s) (option_map (counted_at count) (opening_node s note.now))) }
 {
     if let Note::Open(s, _, _, node) = note {
         if !opened.contains_key(s) {
@@ -91,7 +92,7 @@ fn mark_giving(last: &mut BTreeMap<SessionId, u64>, count: u64, note: &Note) -> 
 
 // Keeps how many notes there are up to the last by which each namenode was gone.
 fn mark_loss(last: &mut BTreeMap<NodeNo, u64>, count: u64, note: &Note) -> Result<(), NoMemory>
-    ensures ok { OnOk result ((node : NodeNo) → get node_cmp last.new node ≡ cond (loses node note.now) (Some count) (get node_cmp last.old node)) }
+    ensures ok { OnOk result ((node : NodeNo) → get node_cmp last.new node ≡ cond (is_loss_of node note.now) (Some count) (get node_cmp last.old node)) }
 {
     if let Note::Gone(node, _) = note {
         last.insert(*node, count)?;
@@ -113,14 +114,14 @@ fn add_taken(takings: &mut Vec<Taken>, count: u64, note: &Note) -> Result<(), No
 // The locks that nothing has given back, in the order in which they were taken.
 fn lasting_locks(
     alloc: Global,
-    losses: &Losses,
+    marks: &LockMarks,
     takings: Vec<Taken>,
 ) -> Result<Vec<(SessionId, Key, Mode)>, NoMemory>
-    ensures { IfOk result (λ locks. locks.items ≡ map lock_in (filter (is_lasting losses.now) takings.items)) }
+    ensures { IfOk result (λ locks. locks.items ≡ map lock_in (filter (is_lasting marks.now) takings.items)) }
 {
     let mut locks = Vec::new(alloc);
     for taken in takings {
-        add_lasting(&mut locks, losses, taken)?;
+        add_lasting(&mut locks, marks, taken)?;
     }
     Ok(locks)
 }
@@ -128,45 +129,37 @@ fn lasting_locks(
 // Adds the lock that was taken, where nothing has given it back.
 fn add_lasting(
     locks: &mut Vec<(SessionId, Key, Mode)>,
-    losses: &Losses,
+    marks: &LockMarks,
     taken: Taken,
 ) -> Result<(), NoMemory>
-    ensures ok { OnOk result (locks.new.items ≡ locks.old.items ++ map lock_in (filter (is_lasting losses.now) (taken ∷ []))) }
+    ensures ok { OnOk result (locks.new.items ≡ locks.old.items ++ map lock_in (filter (is_lasting marks.now) (taken ∷ []))) }
 {
     let Taken { count, lock } = taken;
-    if stays_on(losses, count, lock.0) {
+    if stays_on(marks, count, lock.0) {
         locks.push(lock)?;
     }
     Ok(())
 }
 
 // Whether a lock that the session took by the last of so many notes is still held.
-fn stays_on(losses: &Losses, count: u64, s: SessionId) -> bool
-    ensures { result ≡ stays_on losses.now count s }
+fn stays_on(marks: &LockMarks, count: u64, s: SessionId) -> bool
+    ensures { result ≡ stays_on marks.now count s }
 {
-    let gave = losses.gave.get(&s).copied();
-    let lost = match losses.opened.get(&s).copied() {
+    let gave = marks.gave.get(&s).copied();
+    let lost = match marks.opened.get(&s).copied() {
         Some((opened, node)) => {
-            let gone = losses.gone.get(&node).copied();
-            is_past(count.max(opened), gone)
+            let gone = marks.gone.get(&node).copied();
+            is_past(Some(count.max(opened)), gone)
         }
         None => false,
     };
-    !is_past(count, gave) && !lost
-}
-
-// Whether it is there, and more than so many.
-fn is_past(count: u64, last: Option<u64>) -> bool
-    ensures { result ≡ is_past (Some count) last }
-{
-    match last {
-        Some(last) => count < last,
-        None => false,
-    }
+    !is_past(Some(count), gave) && !lost
 }
 
 // The locks by key and then by session.
-fn in_order(mut locks: Vec<(SessionId, Key, Mode)>) -> Result<Vec<(SessionId, Key, Mode)>, NoMemory>
+fn locks_in_order(
+    mut locks: Vec<(SessionId, Key, Mode)>,
+) -> Result<Vec<(SessionId, Key, Mode)>, NoMemory>
     ensures all { IfOk result (λ v. IsPermutation locks.items v.items) }
     ensures rise { IfOk result (λ v. IsSorted lock_cmp v.items) }
     ensures stable { IfOk result (λ v. IsStable lock_cmp locks.items v.items) }

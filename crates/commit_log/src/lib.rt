@@ -9,12 +9,13 @@
 
 mod answer;
 mod book;
+pub mod examples;
 mod flagged;
 mod held;
 mod journal;
 pub mod laws;
 mod note;
-pub mod rows;
+mod places;
 #[cfg(test)]
 mod tests;
 

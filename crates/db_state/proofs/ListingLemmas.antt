@@ -6,7 +6,7 @@ use Rattle.hops_base.specs.declared.ids.InodeId.{InodeId}
 use Rattle.hops_base.specs.declared.key.Key.TheVariants as key
 use Rattle.name_space.specs.declared.entry.Listed.{Listed}
 use Rattle.row_store.specs.Children.{IsChildren}
-use Rattle.row_store.specs.ChildLaws.{IsChildren-only}
+use Rattle.row_store.proofs.ChildLaws.{IsChildren-only}
 use Rattle.db_state.specs.Spelled.{Inodes}
 use Rattle.db_state.specs.Current.{listed_row, listed_under}
 

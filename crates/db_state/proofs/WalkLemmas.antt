@@ -15,19 +15,21 @@ use Rattle.std.proofs.lemmas.List.{append_assoc, append-nil, reverse-append}
 use Rattle.hops_base.specs.declared.ids.InodeId.{InodeId}
 use Rattle.hops_base.specs.declared.key.Key.{Key}
 use Rattle.hops_base.specs.declared.key.Key.TheVariants as key
-use Rattle.hops_base.specs.Name.{same_name}
+use Rattle.std.specs.Prelude.{bytes_eq}
 use Rattle.hops_base.specs.Path.{path_cmp, same_path}
-use Rattle.hops_base.specs.Tells.{paths_tell}
+use Rattle.hops_base.proofs.Tells.{paths_tell}
 use Rattle.name_space.specs.declared.entry.Entry.{Entry}
 use Rattle.name_space.specs.Namespace.{Namespace, Path, IsNamespace, entry_at, is_within, below}
-use Rattle.name_space.specs.NamespaceLaws.{Rises, same_spaces, Rises-filter, entry_at-below, none_from, missing_within}
-use Rattle.name_space.specs.PathLaws.{is_within-self, is_within-append, is_within-rest, is_within-trans}
+use Rattle.name_space.specs.Namespace.{Rises}
+use Rattle.name_space.proofs.NamespaceLaws.{same_spaces, Rises-filter, entry_at-below, none_from, missing_within}
+use Rattle.name_space.proofs.PathLaws.{is_within-self, is_within-append, is_within-rest, is_within-trans}
 use Rattle.inode_table.specs.declared.inode.Inode.{Inode}
 use Rattle.row_store.specs.Children.{child_names}
-use Rattle.row_store.specs.ChildLaws.{IsChildren-child_names}
+use Rattle.row_store.proofs.ChildLaws.{IsChildren-child_names}
 use Rattle.db_state.specs.Spelled.{Inodes, child_of, spelled, row_of}
 use Rattle.db_state.specs.Stands.{Quotas, entry_of, Stands}
-use Rattle.db_state.specs.Walk.{step_to, parts, unfinished}
+use Rattle.db_state.specs.Walk.{step_to}
+use Rattle.db_state.proofs.Unfinished.{parts, unfinished}
 
 -- ---- what holds of each
 
@@ -141,10 +143,10 @@ found_parts space top q (a ∷ names) =
     joined true c (Some e) = refl
     joined false c o = refl
 
-any_within : (top : Path) (name : List ℕ) (q : Path) (names : List (List ℕ)) → list_any (same_name name) names ≡ true → is_within (top ++ name ∷ []) q ≡ true → list_any (λ (n : List ℕ). is_within (top ++ n ∷ []) q) names ≡ true
+any_within : (top : Path) (name : List ℕ) (q : Path) (names : List (List ℕ)) → list_any (bytes_eq name) names ≡ true → is_within (top ++ name ∷ []) q ≡ true → list_any (λ (n : List ℕ). is_within (top ++ n ∷ []) q) names ≡ true
 any_within top name q [] e inside = absurd (true≢false (sym e))
 any_within top name q (n ∷ names) e inside =
-    (elim (same_name name n) as (λ b. same_name name n ≡ b → (b || list_any (same_name name) names) ≡ true → (is_within (top ++ n ∷ []) q || list_any (λ (m : List ℕ). is_within (top ++ m ∷ []) q) names) ≡ true) [
+    (elim (bytes_eq name n) as (λ b. bytes_eq name n ≡ b → (b || list_any (bytes_eq name) names) ≡ true → (is_within (top ++ n ∷ []) q || list_any (λ (m : List ℕ). is_within (top ++ m ∷ []) q) names) ≡ true) [
       | true ↦ λ same _. or_left (is_within (top ++ n ∷ []) q) _ (subst (λ (m : List ℕ). is_within (top ++ m ∷ []) q ≡ true) ((bytes_decides name n).0 same) inside)
       | false ↦ λ same rest. or_right (is_within (top ++ n ∷ []) q) _ (any_within top name q names rest inside)
     ]) refl e
@@ -156,11 +158,11 @@ none_within top q (n ∷ names) apart =
     λ i. here i || none_within top q names apart i
 
 module _ (space : Namespace) (is : IsNamespace space) (top : Path) (entry : Entry) (names : List (List ℕ)) (there : entry_at space top ≡ Some entry)
-    (up : IsStrictlySortedBy (slice_cmp nat_cmp) names) (members : (name : List ℕ) → list_any (same_name name) names ≡ is_some (entry_at space (top ++ name ∷ []))) where
+    (up : IsStrictlySortedBy (slice_cmp nat_cmp) names) (members : (name : List ℕ) → list_any (bytes_eq name) names ≡ is_some (entry_at space (top ++ name ∷ []))) where
   under : (q : Path) (name : List ℕ) (rest : Path) → top ++ name ∷ rest ≡ q → entry_at space q ≡ cond (list_any (λ (n : List ℕ). is_within (top ++ n ∷ []) q) names) (entry_at space q) None
   under q name rest at =
       let inside : is_within (top ++ name ∷ []) q ≡ true = subst (λ (p : Path). is_within (top ++ name ∷ []) p ≡ true) (append_assoc top (name ∷ []) rest ∙ at) (is_within-append (top ++ name ∷ []) rest) in
-      (elim (list_any (same_name name) names) as (λ b. list_any (same_name name) names ≡ b → entry_at space q ≡ cond (list_any (λ (n : List ℕ). is_within (top ++ n ∷ []) q) names) (entry_at space q) None) [
+      (elim (list_any (bytes_eq name) names) as (λ b. list_any (bytes_eq name) names ≡ b → entry_at space q ≡ cond (list_any (λ (n : List ℕ). is_within (top ++ n ∷ []) q) names) (entry_at space q) None) [
         | true ↦ λ one. sym (ap (λ (b : Bool). cond b (entry_at space q) None) (any_within top name q names one inside))
         | false ↦ λ none.
             let gone : entry_at space q ≡ None = missing_within space is (top ++ name ∷ []) (none_from (entry_at space (top ++ name ∷ [])) (sym (members name) ∙ none)) q inside in
@@ -238,11 +240,11 @@ rows_steps inodes pending top row at all (name ∷ names) some =
     (all_append (HasRow inodes) (pending ++ reverse (list_map (step_to top row.id) names)) (step_to top row.id name ∷ []) (rows_steps inodes pending top row at all names some.1)
     (has_row inodes top name row at (rows.get inodes (key.Inode row.id name)) refl some.0, tt))
 
-all_members : (test : List ℕ → Bool) (names : List (List ℕ)) → ((name : List ℕ) → list_any (same_name name) names ≡ true → test name ≡ true) → AllByRecursion (λ (name : List ℕ). test name ≡ true) names
+all_members : (test : List ℕ → Bool) (names : List (List ℕ)) → ((name : List ℕ) → list_any (bytes_eq name) names ≡ true → test name ≡ true) → AllByRecursion (λ (name : List ℕ). test name ≡ true) names
 all_members test [] each = tt
 all_members test (n ∷ names) each = (
-  each n (or_left (same_name n n) _ ((bytes_decides n n).1 refl)),
-  all_members test names (λ name later. each name (or_right (same_name name n) _ later)),
+  each n (or_left (bytes_eq n n) _ ((bytes_decides n n).1 refl)),
+  all_members test names (λ name later. each name (or_right (bytes_eq name n) _ later)),
 )
 
 -- ---- the walk

@@ -11,6 +11,7 @@ use Rattle.hops_base.specs.declared.key.Key.TheVariants as key
 use Rattle.hops_base.specs.Key.{same_key}
 use Rattle.name_space.specs.declared.call.Call.{Call}
 use Rattle.name_space.specs.declared.call.Call.TheVariants as call
+use Rattle.name_space.specs.Call.{paths_of}
 use Rattle.name_space.specs.Namespace.{Path}
 use Rattle.name_space.specs.Plain.{last_name}
 use Rattle.inode_table.specs.declared.inode.Inode.{Inode}
@@ -26,7 +27,7 @@ use Rattle.db_state.specs.declared.view.View.{View}
 use Rattle.db_state.specs.State.{root_key}
 use Rattle.db_state.specs.Spelled.{Inodes}
 use Rattle.db_state.specs.Stands.{Quotas, quota_of}
-use Rattle.db_state.specs.Plan.{own_dir, last_found, plan}
+use Rattle.db_state.specs.Plan.{last, own_dir, plan}
 
 -- ---- what a place spells by itself
 
@@ -46,29 +47,22 @@ abbrev pub Spells : Path → List (Key × Inode) → Option Key → Type 0
 Spells path [] missing = ⊥
 Spells path (root ∷ rows) missing = (root.0 ≡ root_key) × Leads root.1 path rows missing
 
+-- the rows of this place lead along its own path
 abbrev pub SpellsPlace : Place → Type 0
 SpellsPlace place = Spells place.path place.found.items place.missing
 
--- the paths that a call's places have: its own, and for a rename into a directory that of the source inside it
+-- the path of a rename's source inside its destination, where that is a directory
 abbrev pub inside : Path → Path → List Place → List Path
 inside [] destination places = []
 inside (name ∷ names) destination [] = []
 inside (name ∷ names) destination (source ∷ []) = []
-inside (name ∷ names) destination (source ∷ there ∷ places) = map (λ (row : Inode). destination ++ last_name (name ∷ names) ∷ []) (own_dir there)
+inside (name ∷ names) destination (source ∷ there ∷ places) =
+    map (λ (row : Inode). destination ++ last_name (name ∷ names) ∷ []) (own_dir there)
 
+-- the paths that a call's places have: its own, and for a rename that inside the destination
 abbrev pub places_of : Call → List Place → List Path
-places_of (call.Mkdirs path) places = path ∷ []
-places_of (call.Create path overwrite) places = path ∷ []
-places_of (call.Append path) places = path ∷ []
-places_of (call.Grow path bytes) places = path ∷ []
-places_of (call.Close path) places = path ∷ []
-places_of (call.Stat path) places = path ∷ []
-places_of (call.List path) places = path ∷ []
-places_of (call.Delete path recursive) places = path ∷ []
 places_of (call.Rename source destination) places = source ∷ destination ∷ inside source destination places
-places_of (call.Chmod path mode) places = path ∷ []
-places_of (call.SetQuota path names bytes) places = path ∷ []
-places_of (call.Usage path) places = path ∷ []
+places_of asked places = paths_of asked
 
 -- ---- against the rows
 
@@ -89,9 +83,13 @@ pub record IsThere (inodes : Inodes) (locked : List (Key × Mode)) (found : Key 
 abbrev pub IsMissing : Inodes → Option Key → Type 0
 IsMissing inodes missing = IfSome missing (λ at. map.get inodes at ≡ None)
 
--- the bit says whether the last row found has a child
+-- the bit says whether the last of these rows has a child
+abbrev pub IsLastsChild : Inodes → List (Key × Inode) → Bool → Type 0
+IsLastsChild inodes found has_child = IfSome (last found) (λ (r : Key × Inode). has_child ≡ nat_lt 0 (child_count inodes r.1.id))
+
+-- the place's bit says so of the last row found
 abbrev pub KnowsChild : Inodes → Place → Type 0
-KnowsChild inodes place = IfSome (last_found place) (λ (r : Key × Inode). place.has_child ≡ nat_lt 0 (child_count inodes r.1.id))
+KnowsChild inodes place = IsLastsChild inodes place.found.items place.has_child
 
 -- the row bears no flag, or that of the session's own operation
 abbrev pub is_unflagged : Option OpId → Option OpId → Bool
@@ -110,34 +108,28 @@ pub record IsCurrentPlace (inodes : Inodes) (locked : List (Key × Mode)) (own :
 -- the quotas that were read are exactly the rows at the locked quota keys
 pub record SeesQuotas (quotas : Quotas) (locked : List (Key × Mode)) (seen : List (InodeId × QuotaRow)) : Type 0 where
   pub once : IsDistinct (λ (a b : InodeId × QuotaRow). a.0.0 == b.0.0) seen
-  pub rows : (id : InodeId) → option_map (λ (q : InodeId × QuotaRow). q.1) (find (λ (q : InodeId × QuotaRow). q.0.0 == id.0) seen) ≡ (if is_locked locked (key.Quota id) then quota_of quotas id else None)
+  pub rows : (id : InodeId) → option_map (λ (q : InodeId × QuotaRow). q.1) (find (λ (q : InodeId × QuotaRow). q.0.0 == id.0) seen)
+      ≡ (if is_locked locked (key.Quota id) then quota_of quotas id else None)
 
--- what is told of a row under its name
+-- what is told of a row of this kind
 abbrev pub status_of_kind : Kind → Inode → FileStatus
 status_of_kind Dir row = status.Dir row.mode row.owner
 status_of_kind File row = status.File row.len row.mode row.owner
 
+-- what is told of a row under its name
 abbrev pub listed_row : List ℕ → Inode → Listed
 listed_row name row = record { name = name; status = status_of_kind row.kind row }
 
 -- the rows under a row, as they are listed: in the order of their names
 abbrev pub listed_under : Inodes → InodeId → List Listed
-listed_under inodes id = filter_map (λ (name : List ℕ). option_map (listed_row name) (map.get inodes (key.Inode id name))) (child_names inodes id)
+listed_under inodes id =
+    filter_map (λ (name : List ℕ). option_map (listed_row name) (map.get inodes (key.Inode id name))) (child_names inodes id)
 
 -- the children that a call tells: those of the directory that a `list` names
 abbrev pub children_told : Inodes → Call → List Place → List Listed
-children_told inodes (call.List path) places = flat_map (λ (place : Place). flat_map (λ (row : Inode). listed_under inodes row.id) (own_dir place)) places
-children_told inodes (call.Mkdirs path) places = []
-children_told inodes (call.Create path overwrite) places = []
-children_told inodes (call.Append path) places = []
-children_told inodes (call.Grow path bytes) places = []
-children_told inodes (call.Close path) places = []
-children_told inodes (call.Stat path) places = []
-children_told inodes (call.Delete path recursive) places = []
-children_told inodes (call.Rename source destination) places = []
-children_told inodes (call.Chmod path mode) places = []
-children_told inodes (call.SetQuota path names bytes) places = []
-children_told inodes (call.Usage path) places = []
+children_told inodes (call.List path) places =
+    flat_map (λ (place : Place). flat_map (λ (row : Inode). listed_under inodes row.id) (own_dir place)) places
+children_told inodes asked places = []
 
 -- every inode has an id below this one
 abbrev pub IsFree : Inodes → ℕ → Type 0

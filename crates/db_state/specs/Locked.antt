@@ -30,11 +30,7 @@ is_own locked at = list_any (λ (k : Key × Mode). is_exclusive k.1 && same_key 
 -- the key is of a name in a directory whose id isn't given yet
 abbrev pub is_in_new : ℕ → Key → Bool
 is_in_new next (key.Inode parent name) = nat_le next parent.0
-is_in_new next (key.Quota id) = false
-is_in_new next (key.Lease client id) = false
-is_in_new next (key.Reply client) = false
-is_in_new next (key.Ongoing op) = false
-is_in_new next key.Gate = false
+is_in_new next other = false
 
 -- no other session can hold the key of this write
 abbrev pub MayWrite : List (Key × Mode) → ℕ → Key × Option Row → Type 0

@@ -15,7 +15,8 @@ use Rattle.db_state.specs.declared.writes.Row.TheVariants as row
 -- the rows of one new directory for each name, each below the one before from the parent on, with the ids from next on
 abbrev pub new_dirs : ℕ → ℕ → List ℕ → List (List ℕ) → List (Key × Option Row)
 new_dirs parent next owner [] = []
-new_dirs parent next owner (name ∷ names) = (key.Inode (record { 0 = parent }) name, Some (row.Inode (new_dir next owner))) ∷ new_dirs next (next + 1) owner names
+new_dirs parent next owner (name ∷ names) =
+    (key.Inode (record { 0 = parent }) name, Some (row.Inode (new_dir next owner))) ∷ new_dirs next (next + 1) owner names
 
 -- the first of the names has no row under the parent
 abbrev pub FirstMissing : Inodes → InodeId → List (List ℕ) → Type 0

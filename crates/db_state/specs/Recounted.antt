@@ -5,7 +5,8 @@ use Rattle.std.specs.List.{filter_map, list_any}
 use Rattle.hops_base.specs.declared.ids.InodeId.{InodeId}
 use Rattle.hops_base.specs.declared.key.Key.{Key}
 use Rattle.hops_base.specs.declared.key.Key.TheVariants as key
-use Rattle.name_space.specs.Namespace.{Namespace, Path, prefixes, used_names, used_bytes}
+use Rattle.name_space.specs.declared.entry.Entry.{Entry}
+use Rattle.name_space.specs.Namespace.{Path, prefixes, bytes_of}
 use Rattle.inode_table.specs.declared.inode.Inode.{Inode}
 use Rattle.quota_table.specs.declared.quota.QuotaRow.{QuotaRow}
 use Rattle.db_state.specs.Spelled.{Inodes, row_of}
@@ -33,11 +34,6 @@ pub record Becomes (change : Change) (counts : Bool) (old new : QuotaRow) : Type
   pub names : new.used_names + (if counts then change.names_gone else 0) ≡ old.used_names + (if counts then change.names_come else 0)
   pub bytes : new.used_bytes + (if counts then change.bytes_gone else 0) ≡ old.used_bytes + (if counts then change.bytes_come else 0)
 
--- a path uses as much more and less, where the change is below it
-pub record Uses (change : Change) (counts : Bool) (space after : Namespace) (top : Path) : Type 0 where
-  pub names : used_names after top + (if counts then change.names_gone else 0) ≡ used_names space top + (if counts then change.names_come else 0)
-  pub bytes : used_bytes after top + (if counts then change.bytes_gone else 0) ≡ used_bytes space top + (if counts then change.bytes_come else 0)
-
 -- where there was a quota row there is one that it becomes, and where there was none there is none
 abbrev pub Turns : Change → Bool → Option QuotaRow → Option QuotaRow → Type 0
 Turns change counts None None = ⊤
@@ -49,3 +45,15 @@ Turns change counts (Some old) (Some new) = Becomes change counts old new
 pub record IsRecounted (inodes : Inodes) (path : Path) (change : Change) (quotas after : Quotas) : Type 0 where
   pub keys : (at : Key) (quota : QuotaRow) → map.get after at ≡ Some quota → (id : InodeId) × (at ≡ key.Quota id)
   pub rows : (id : InodeId) → Turns change (is_along inodes path id) (quota_of quotas id) (quota_of after id)
+
+-- the bytes of a path's entry change, and no names come or go
+abbrev pub in_place : Entry → Entry → Change
+in_place old new = record { names_gone = 0; bytes_gone = bytes_of old; names_come = 0; bytes_come = bytes_of new }
+
+-- a name and the bytes of this entry go
+abbrev pub one_gone : Entry → Change
+one_gone old = record { names_gone = 1; bytes_gone = bytes_of old; names_come = 0; bytes_come = 0 }
+
+-- so many names come
+abbrev pub names_more : ℕ → Change
+names_more names = record { names_gone = 0; bytes_gone = 0; names_come = names; bytes_come = 0 }

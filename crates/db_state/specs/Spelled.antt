@@ -34,12 +34,18 @@ pub record IsDirRow (inodes : Inodes) (id : InodeId) : Type 0 where
   pub is : row.id ≡ id
   pub dir : row.kind ≡ Dir
 
+-- a directory's row has length 0 and no writer
+abbrev pub FitsKind : Inode → Type 0
+FitsKind row = row.kind ≡ Dir → (row.len ≡ 0) × (row.writer ≡ None)
+
 -- the rows spell a tree: they stand under parents and names; their ids differ, and are from 1 on and below the next free
--- one; the root's row is there, and no other stands under no parent; each other stands under a directory; each is spelled
+-- one; those of directories have no length and no writer; the root's row is there, and no other stands under no parent; each
+-- other stands under a directory; each is spelled
 pub record IsTree (inodes : Inodes) (next : ℕ) : Type 0 where
   pub keys : (at : Key) (row : Inode) → map.get inodes at ≡ Some row → (parent : InodeId) × (name : List ℕ) × (at ≡ key.Inode parent name)
   pub apart : (at other : Key) (row twin : Inode) → map.get inodes at ≡ Some row → map.get inodes other ≡ Some twin → row.id ≡ twin.id → at ≡ other
   pub range : (at : Key) (row : Inode) → map.get inodes at ≡ Some row → (1 ≤ row.id.0) × (row.id.0 < next)
+  pub dirs : (at : Key) (row : Inode) → map.get inodes at ≡ Some row → FitsKind row
   pub root : map.get inodes root_key ≡ Some root_row
   pub top : (name : List ℕ) (row : Inode) → map.get inodes (key.Inode (record { 0 = 0 }) name) ≡ Some row → name ≡ codes "root"
   pub parents : (parent : InodeId) (name : List ℕ) (row : Inode) → map.get inodes (key.Inode parent name) ≡ Some row → parent.0 ≢ 0 → IsDirRow inodes parent

@@ -23,9 +23,11 @@ quota_of quotas id = map.get quotas (key.Quota id)
 
 -- the entry that a row of this kind stands for, where this is its quota row
 abbrev pub entry_of_kind : Kind → Inode → Option QuotaRow → Entry
-entry_of_kind Dir inode quota = entry.Dir inode.mode inode.owner (option_and_then (λ (q : QuotaRow). q.max_names) quota) (option_and_then (λ (q : QuotaRow). q.max_bytes) quota)
+entry_of_kind Dir inode quota =
+    entry.Dir inode.mode inode.owner (option_and_then (λ (q : QuotaRow). q.max_names) quota) (option_and_then (λ (q : QuotaRow). q.max_bytes) quota)
 entry_of_kind File inode quota = entry.File inode.len inode.writer inode.mode inode.owner
 
+-- the entry that a row stands for
 abbrev pub entry_of : Quotas → Inode → Entry
 entry_of quotas inode = entry_of_kind inode.kind inode (quota_of quotas inode.id)
 

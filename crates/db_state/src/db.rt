@@ -8,19 +8,20 @@ ghost use Rattle.db_state.specs.Consistent.{IsConsistent};
 ghost use Rattle.db_state.specs.Stands.{quota_of};
 ghost use Rattle.db_state.specs.Written.{committed, next_after};
 
+use crate::directory::new_dir;
 use crate::rows::{next_id, reserve_rows, write_notes, write_rows};
 use crate::settings::Settings;
 use crate::tables::Tables;
 use crate::writes::Writes;
 use commit_log::{Book, Note};
 use hops_base::{ClientNo, InodeId, Key, Name, NoMemory, User};
-use inode_table::{Inode, Kind};
+use inode_table::Inode;
 use quota_table::QuotaRow;
 use std::alloc::Global;
 use std::marker::Model;
 use std::slice;
 
-/// The tables, the settings, the book, and the next free inode id. The rows and the book always accord: the
+/// The tables, the settings, the book, and the next free inode id. The rows and the book are always consistent: the
 /// rows stand for the namespace to which the history in the book leads, with its ids and its counts.
 #[derive(Drop)]
 pub struct Db {
@@ -70,8 +71,8 @@ impl Db {
         })
     }
 
-    /// That the rows and the book accord.
-    pub fn accord(&self)
+    /// That the rows and the book are consistent. It does nothing.
+    pub fn consistent(&self)
         ensures { IsConsistent self.now }
     {
         let _ = &self.tables;
@@ -153,10 +154,10 @@ impl Db {
         self.book
     }
 
-    /// Writes the rows and the notes, which accord. All memory is taken before the first write: want of it
-    /// changes nothing.
+    /// Writes the rows and the notes, which are consistent with what was there. All memory is taken before the first
+    /// write: want of it changes nothing.
     pub fn commit(&mut self, writes: Writes, notes: Vec<Note>) -> Result<(), NoMemory>
-        requires accord { IsConsistent (committed self.old writes.items notes.items) }
+        requires consistent { IsConsistent (committed self.old writes.items notes.items) }
         requires ids { next_after self.old.next writes.items < 2 ^ 64 }
         ensures ok { OnOk result (self.new ≡ committed self.old writes.items notes.items) }
         ensures err { OnErr result (self.new ≡ self.old) }
@@ -185,16 +186,7 @@ fn make_root_row(alloc: Global) -> Result<Inode, NoMemory>
     ensures { IfOk result (λ row. row ≡ root_row) }
 {
     match User::read(alloc, "hdfs") {
-        Ok(owner) => Ok(Inode {
-            id: InodeId(1),
-            kind: Kind::Dir,
-            len: 0,
-            writer: None,
-            mode: 493,
-            owner,
-            has_quota: false,
-            flag: None,
-        }),
+        Ok(owner) => Ok(new_dir(InodeId(1), owner)),
         Err(_) => Err(NoMemory),
     }
 }

@@ -29,16 +29,9 @@ fn start(alloc: Global) -> Result<Db, Fail> {
 fn opened(alloc: Global) -> Result<Db, Fail> {
     let mut db = Db::start(alloc, &one_client(alloc)?)?;
     let notes = vec![in alloc; Note::Open(SessionId(1), ClientNo(0), 1, NodeNo(0))]?;
-    db.accord();
+    db.consistent();
     db.commit(Writes::new(alloc), notes)?;
     Ok(db)
-}
-
-fn user_text(user: Option<&User>) -> &str {
-    match user {
-        Some(user) => user.text(),
-        None => "nobody",
-    }
 }
 
 fn settings_text(alloc: Global, settings: &Settings) -> Result<String, NoMemory> {
@@ -109,7 +102,6 @@ fn settings_tell_what_they_were_made_of(rt: HostRuntime) -> Result<(), Fail> {
         settings_text(rt.alloc(), &settings)?.as_str(),
         "2 namenodes, 64 beats, 1 users, [(NodeNo(1), 7)]"
     );
-    assert_eq!(rt; user_text(settings.user(ClientNo(0))), "ann");
     Ok(())
 }
 
@@ -118,20 +110,10 @@ fn a_new_database_has_the_root_alone(rt: HostRuntime) -> Result<(), Fail> {
     let alloc = rt.alloc();
     let db = start(alloc)?;
     assert_eq!(rt; root_text(alloc, &db)?.as_str(), "0/root of hdfs");
-    assert!(rt; db.inode(db.root_key()).is_some());
-    assert!(rt; db.quota(InodeId(1)).is_none());
     assert_eq!(rt;
         counts_text(alloc, &db)?.as_str(),
         "next 2, 0 notes, 0 children, 0 names"
     );
-    Ok(())
-}
-
-#[test]
-fn a_database_knows_its_users(rt: HostRuntime) -> Result<(), Fail> {
-    let db = start(rt.alloc())?;
-    assert_eq!(rt; user_text(db.user(ClientNo(0))), "ann");
-    assert_eq!(rt; user_text(db.user(ClientNo(1))), "nobody");
     Ok(())
 }
 
@@ -148,15 +130,6 @@ fn the_first_root_has_nothing_under_it(rt: HostRuntime) -> Result<(), Fail> {
     let db = start(alloc)?;
     assert_eq!(rt; listing_text(alloc, &db, InodeId(1))?.as_str(), "");
     assert_eq!(rt; listing_text(alloc, &db, InodeId(0))?.as_str(), "root ");
-    Ok(())
-}
-
-#[test]
-fn writes_begin_with_none(rt: HostRuntime) -> Result<(), Fail> {
-    let mut writes = Writes::new(rt.alloc());
-    writes.reserve(2)?;
-    assert_eq!(rt; writes.len(), 0);
-    assert!(rt; writes.get(0).is_none());
     Ok(())
 }
 

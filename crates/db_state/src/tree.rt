@@ -17,7 +17,7 @@ use std::alloc::Global;
 pub fn tree_of(alloc: Global, db: &Db) -> Result<ItemList<(Path, Entry)>, NoMemory>
     ensures { IfOk result (λ tree. tree.items ≡ space db.now.settings.users db.now.notes) }
 {
-    db.accord();
+    db.consistent();
     let mut tree = ItemList::new(alloc);
     let mut pending = Vec::new(alloc);
     pending.push((Path::root(alloc), db.root_key().copy()?))?;

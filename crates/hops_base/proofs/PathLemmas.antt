@@ -1,15 +1,18 @@
 -- The texts of paths, a name at a time.
 use Rattle.std.proofs.Common.{◌≡◌, ℕ, ◌+◌, ◌≤◌, ◌<◌, ◌*◌, suc, Bool, true, false, not, cond, ◌&&◌, ◌||◌, ◌==◌, nat_lt, nat_le, List, [], ◌∷◌, ◌++◌, length, take, get_or, Option, Some, None, refl, ap, sym, ◌∙◌, append_assoc, append-nil, add-one, length-append, arith, zero, if◌then◌else◌, Result, Ok, Err, IfOk, inl, inr}
 use Rattle.std.proofs.lemmas.Bool.Decides.{nat_tests}
+use Rattle.std.proofs.lemmas.Bool.{and_parts}
+use Rattle.std.specs.Str.{is_utf8}
 use Rattle.std.specs.List.{list_all, list_any, slice_split, onto_first}
 use Rattle.std.specs.Option.{option_or}
 use Rattle.std.specs.Cmp.{first_so, second_so}
 use Rattle.std.proofs.Math.Seq.{take-suc}
 use Rattle.hops_base.specs.declared.path_text.PathFault.{PathFault}
 use Rattle.hops_base.specs.declared.path_text.PathFault.TheVariants.{EmptyName, Dot, Nul, NameTooLong}
-use Rattle.hops_base.specs.Name.{is_name, is_name_byte, same_name}
-use Rattle.hops_base.specs.Path.{joined, text_of, is_absolute, names_in, is_piece, name_fault, names_fault, free_fault, is_short, IsNamesRead, IsPathRead}
-use Rattle.hops_base.specs.PathLaws.{text_of-names_in}
+use Rattle.hops_base.specs.Name.{most_name_bytes, is_name, is_name_byte}
+use Rattle.std.specs.Prelude.{bytes_eq}
+use Rattle.hops_base.specs.Path.{most_path_bytes, most_path_names, joined, text_of, is_absolute, names_in, is_piece, name_fault, names_fault, free_fault, is_short, IsNamesRead, IsPathRead}
+use Rattle.hops_base.proofs.PathLaws.{text_of-names_in}
 
 -- one more name
 pub joined-push : (names : List (List ℕ)) (name : List ℕ) → joined (names ++ name ∷ []) ≡ joined names ++ 47 ∷ name
@@ -39,14 +42,13 @@ names_are_pieces [] = refl
 names_are_pieces (b ∷ []) = refl
 names_are_pieces (b ∷ next ∷ rest) = pieces_of_split (next ∷ rest)
 
--- a piece that has no fault is a name
-pub name_good : (i : ℕ) (name : List ℕ) → name_fault i name ≡ None → is_piece name ≡ true → is_name name ≡ true
-name_good i name h p =
-    elim (length name == 0) as (λ t. (length name == 0) ≡ t → (if t then Some (EmptyName i) else if same_name name (46 ∷ []) || same_name name (46 ∷ 46 ∷ []) then Some (Dot i) else if list_any (λ b. b == 0) name then Some (Nul i) else if nat_lt 255 (length name) then Some (NameTooLong i) else None) ≡ None → is_name name ≡ true) [
-      | true ↦ λ e f. cc
-      | false ↦ λ e f. not_empty e f
-    ] refl h
+-- a piece that has no fault is a name, where it is UTF-8
+pub name_good : (i : ℕ) (name : List ℕ) → name_fault i name ≡ None → is_piece name ≡ true → is_utf8 name ≡ true → is_name name ≡ true
+name_good i name h p u = rw u (both (plain h))
   where
+    both : {b : Bool} → b ≡ true → (b && true) ≡ true
+    both e = rw e refl
+
     good_bytes : (bytes : List ℕ) → list_any (λ b. b == 0) bytes ≡ false → is_piece bytes ≡ true → list_all is_name_byte bytes ≡ true
     good_bytes [] n p = refl
     good_bytes (b ∷ bytes) n p =
@@ -58,36 +60,36 @@ name_good i name h p =
     few : (n : ℕ) → (n == 0) ≡ false → nat_lt 0 n ≡ true
     few n e = grind (arith, nat_tests)
 
-    short : (n : ℕ) → nat_lt 255 n ≡ false → nat_le n 255 ≡ true
+    short : (n : ℕ) → nat_lt most_name_bytes n ≡ false → nat_le n most_name_bytes ≡ true
     short n e = grind (arith, nat_tests)
 
-    not_empty : (length name == 0) ≡ false → (if same_name name (46 ∷ []) || same_name name (46 ∷ 46 ∷ []) then Some (Dot i) else if list_any (λ b. b == 0) name then Some (Nul i) else if nat_lt 255 (length name) then Some (NameTooLong i) else None) ≡ None → is_name name ≡ true
-    not_empty e f =
-        elim (same_name name (46 ∷ [])) as (λ t. (if t || same_name name (46 ∷ 46 ∷ []) then Some (Dot i) else if list_any (λ b. b == 0) name then Some (Nul i) else if nat_lt 255 (length name) then Some (NameTooLong i) else None) ≡ None → (nat_lt 0 (length name) && nat_le (length name) 255 && not t && not (same_name name (46 ∷ 46 ∷ [])) && list_all is_name_byte name) ≡ true) [
-          | true ↦ λ g. cc
-          | false ↦ λ g. elim (same_name name (46 ∷ 46 ∷ [])) as (λ t. (if t then Some (Dot i) else if list_any (λ b. b == 0) name then Some (Nul i) else if nat_lt 255 (length name) then Some (NameTooLong i) else None) ≡ None → (nat_lt 0 (length name) && nat_le (length name) 255 && true && not t && list_all is_name_byte name) ≡ true) [
-            | true ↦ λ k. cc
-            | false ↦ λ k. elim (list_any (λ b. b == 0) name) as (λ t. list_any (λ b. b == 0) name ≡ t → (if t then Some (Nul i) else if nat_lt 255 (length name) then Some (NameTooLong i) else None) ≡ None → (nat_lt 0 (length name) && nat_le (length name) 255 && true && true && list_all is_name_byte name) ≡ true) [
-              | true ↦ λ n m. cc
-              | false ↦ λ n m. elim (nat_lt 255 (length name)) as (λ t. nat_lt 255 (length name) ≡ t → (if t then Some (NameTooLong i) else None) ≡ None → (nat_lt 0 (length name) && nat_le (length name) 255 && true && true && list_all is_name_byte name) ≡ true) [
-                | true ↦ λ s q. cc
-                | false ↦ λ s q. rw (few (length name) e, short (length name) s, good_bytes name n p) refl
-              ] refl m
-            ] refl k
-          ] g
-        ] f
+    -- the tests of a name that has no fault, one after another
+    tests : (empty dot dots nul long : Bool) → (if empty then Some (EmptyName i) else if dot || dots then Some (Dot i) else if nul then Some (Nul i) else if long then Some (NameTooLong i) else None) ≡ None
+        → (empty ≡ false) × (dot ≡ false) × (dots ≡ false) × (nul ≡ false) × (long ≡ false)
+    tests true dot dots nul long e = cc
+    tests false true dots nul long e = cc
+    tests false false true nul long e = cc
+    tests false false false true long e = cc
+    tests false false false false true e = cc
+    tests false false false false false e = (refl, refl, refl, refl, refl)
 
--- pieces of which none has a fault are names
-pub names_good : (i : ℕ) (names : List (List ℕ)) → names_fault i names ≡ None → list_all is_piece names ≡ true → list_all is_name names ≡ true
-names_good i [] h p = refl
-names_good i (name ∷ names) h p =
-    elim (name_fault i name) as (λ o. name_fault i name ≡ o → option_or o (names_fault (i + 1) names) ≡ None → list_all is_name (name ∷ names) ≡ true) [
-      | None ↦ λ e f. elim (is_piece name) as (λ t. is_piece name ≡ t → (t && list_all is_piece names) ≡ true → (is_name name && list_all is_name names) ≡ true) [
-        | true ↦ λ q r. rw (name_good i name e q, names_good (i + 1) names f r) refl
-        | false ↦ λ q r. cc
-      ] refl p
-      | Some fault ↦ λ e f. cc
-    ] refl h
+    plain : name_fault i name ≡ None → (nat_lt 0 (length name) && nat_le (length name) most_name_bytes && not (bytes_eq name (46 ∷ [])) && not (bytes_eq name (46 ∷ 46 ∷ [])) && list_all is_name_byte name) ≡ true
+    plain none =
+        let found = tests (length name == 0) (bytes_eq name (46 ∷ [])) (bytes_eq name (46 ∷ 46 ∷ [])) (list_any (λ b. b == 0) name) (nat_lt most_name_bytes (length name)) none in
+        rw (few (length name) found.0, short (length name) found.4, found.1, found.2, good_bytes name found.3 p) refl
+
+-- pieces of which none has a fault are names, where they are UTF-8
+pub names_good : (i : ℕ) (names : List (List ℕ)) → names_fault i names ≡ None → list_all is_piece names ≡ true → list_all is_utf8 names ≡ true → list_all is_name names ≡ true
+names_good i [] h p u = refl
+names_good i (name ∷ names) h p u =
+    let faults = neither (name_fault i name) (names_fault (i + 1) names) h in
+    let pieces = and_parts (is_piece name) (list_all is_piece names) p in
+    let texts = and_parts (is_utf8 name) (list_all is_utf8 names) u in
+    rw (name_good i name faults.0 pieces.0 texts.0, names_good (i + 1) names faults.1 pieces.1 texts.1) refl
+  where
+    neither : (a b : Option PathFault) → option_or a b ≡ None → (a ≡ None) × (b ≡ None)
+    neither None b e = (refl, e)
+    neither (Some fault) b e = cc
 
 -- a test that all pass, the first n pass
 pub list_all-take : {X : Type 0} (p : X → Bool) (n : ℕ) (xs : List X) → list_all p xs ≡ true → list_all p (take n xs) ≡ true
@@ -102,13 +104,13 @@ read_by_names fault text names (Err e) absolute is told (inl memory) = inl memor
 read_by_names fault text names (Err e) absolute is told (inr read) = inr (rw (told, ← is) read)
 
 -- the path of a text that is neither too long nor too deep is short
-pub short_when_read : (text : List ℕ) (names : List (List ℕ)) (r : Result (List (List ℕ)) PathFault) → length text ≤ 8000 → length names ≤ 1000 → is_absolute text ≡ true → names ≡ names_in text → IsNamesRead names r → IfOk r (λ path. is_short path ≡ true)
+pub short_when_read : (text : List ℕ) (names : List (List ℕ)) (r : Result (List (List ℕ)) PathFault) → length text ≤ most_path_bytes → length names ≤ most_path_names → is_absolute text ≡ true → names ≡ names_in text → IsNamesRead names r → IfOk r (λ path. is_short path ≡ true)
 short_when_read text names (Err e) short few absolute is read = tt
 short_when_read text names (Ok path) short few absolute is read =
     let same : text_of path ≡ text = ap text_of (read.1 ∙ is) ∙ text_of-names_in text absolute in
     let count : length path ≡ length names = ap length read.1 in
     let size : length (text_of path) ≡ length text = ap length same in
-    rw (at_most 1000 (length path) (omega arith), at_most 8000 (length (text_of path)) (omega arith)) refl
+    rw (at_most most_path_names (length path) (omega arith), at_most most_path_bytes (length (text_of path)) (omega arith)) refl
   where
     at_most : (m n : ℕ) → n ≤ m → nat_le n m ≡ true
     at_most m n h = grind (arith, nat_tests)
@@ -125,7 +127,7 @@ text_grows names i name before slash after text h item same is by to =
 -- so is its length
 pub len_grows : (names : List (List ℕ)) (i len : ℕ) (name text : List ℕ) → i < length names → name ≡ get_or names i name → text ≡ name → is_name name ≡ true → len ≡ length (joined (take i names)) → len ≤ 256 * i → (len + (1 + length text) ≡ length (joined (take (i + 1) names))) × (len + (1 + length text) ≤ 256 * (i + 1))
 len_grows names i len name text h item same good is few =
-    let small : length name ≤ 255 = at_most (length name) (second_so _ _ (first_so _ _ (first_so _ _ (first_so _ _ good)))) in
+    let small : length name ≤ 255 = at_most (length name) (second_so _ _ (first_so _ _ (first_so _ _ (first_so _ _ (first_so _ _ good))))) in
     let here : length text ≡ length name = ap length same in
     let next : length (joined (take (i + 1) names)) ≡ length (joined (take i names)) + length (47 ∷ get_or names i name) = ap length (joined-next names i name h) ∙ length-append _ _ in
     let item_len : length (get_or names i name) ≡ length name = ap length (sym item) in

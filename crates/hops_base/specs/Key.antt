@@ -1,7 +1,6 @@
 -- The order of the keys, which is the lock order: by table, then by the fields in their order. This project's own.
 use Rattle.std.specs.Prelude.{◌≡◌, ℕ, Bool, List, [], refl}
-use Rattle.std.proofs.Common.{zero, suc, sym, ap, ◌∙◌}
-use Rattle.std.proofs.lemmas.Map.Lookups.{CmpEqualImpliesEq, exact_pairs, exact_unsigned, exact_bytes}
+use Rattle.std.proofs.Common.{zero, suc}
 use Rattle.std.specs.Coded.{Coded, code_by, coded×, coded_ℕ, coded_list}
 use Rattle.std.specs.declared.cmp.Ordering.{Ordering}
 use Rattle.std.specs.Ordering.{nat_cmp, on, then_cmp, eq_by_cmp}
@@ -79,13 +78,6 @@ key_of-parts (Lease client id) = refl
 key_of-parts (Reply client) = refl
 key_of-parts (Ongoing op) = refl
 key_of-parts Gate = refl
-
--- keys that compare alike are one
-pub key_cmp_exact : CmpEqualImpliesEq key_cmp
-unfolding key_cmp
-key_cmp_exact a b h =
-    let same : parts_of a ≡ parts_of b = exact_pairs nat_cmp _ exact_unsigned (exact_pairs nat_cmp _ exact_unsigned (exact_pairs nat_cmp (slice_cmp nat_cmp) exact_unsigned exact_bytes)) (parts_of a) (parts_of b) h in
-    sym (key_of-parts a) ∙ ap key_of same ∙ key_of-parts b
 
 -- a key is stored as its parts
 abbrev pub coded_key : Coded Key

@@ -1,9 +1,8 @@
 pub mod Devices
 pub mod First
+pub mod Ids
 pub mod Key
 pub mod Name
 pub mod Path
-pub mod PathLaws
 pub mod Roomy
-pub mod Tells
 pub mod User

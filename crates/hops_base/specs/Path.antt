@@ -1,14 +1,23 @@
 -- Paths: lists of names, their texts, and which texts are read. The limits are this project's own.
-use Rattle.std.specs.Prelude.{◌≡◌, ℕ, ◌+◌, ◌-◌, Bool, false, not, ◌&&◌, ◌||◌, ◌==◌, nat_le, nat_lt, if◌then◌else◌, List, [], ◌∷◌, ◌++◌, length, take, Option, Some, None, Result, Ok, Err, ◌⊎◌}
+use Rattle.std.specs.Prelude.{◌≡◌, ℕ, ◌+◌, Bool, false, not, ◌&&◌, ◌||◌, ◌==◌, nat_le, nat_lt, if◌then◌else◌, List, [], ◌∷◌, ◌++◌, length, take, Option, Some, None, Result, Ok, Err, ◌⊎◌}
 use Rattle.std.specs.List.{slice_split, list_any, list_all, starts_with}
 use Rattle.std.specs.Option.{option_or}
 use Rattle.std.specs.Ordering.{nat_cmp, eq_by_cmp}
 use Rattle.std.specs.declared.cmp.Ordering.{Ordering}
 use Rattle.std.specs.Cmp.{IsTotalOrder}
 use Rattle.std.specs.Cmp.Lexicographic.{slice_cmp, lists_total, nat_list_cmp_total}
-use Rattle.hops_base.specs.Name.{same_name}
+use Rattle.hops_base.specs.Name.{most_name_bytes}
+use Rattle.std.specs.Prelude.{bytes_eq}
 use Rattle.hops_base.specs.declared.path_text.PathFault.{PathFault}
 use Rattle.hops_base.specs.declared.path_text.PathFault.TheVariants.{PathTooLong, Relative, TooDeep, EmptyName, Dot, Nul, NameTooLong, NoMemory}
+
+-- the most bytes in the text of a path that a call may name
+abbrev pub most_path_bytes : ℕ
+most_path_bytes = 8000
+
+-- the most names in a path that a call may name
+abbrev pub most_path_names : ℕ
+most_path_names = 1000
 
 -- each name after a slash
 abbrev pub joined : List (List ℕ) → List ℕ
@@ -35,9 +44,9 @@ names_in (byte ∷ next ∷ rest) = slice_split (λ b. b == 47) (next ∷ rest)
 abbrev pub name_fault : ℕ → List ℕ → Option PathFault
 name_fault i name =
     if length name == 0 then Some (EmptyName i)
-    else if same_name name (46 ∷ []) || same_name name (46 ∷ 46 ∷ []) then Some (Dot i)
+    else if bytes_eq name (46 ∷ []) || bytes_eq name (46 ∷ 46 ∷ []) then Some (Dot i)
     else if list_any (λ b. b == 0) name then Some (Nul i)
-    else if nat_lt 255 (length name) then Some (NameTooLong i)
+    else if nat_lt most_name_bytes (length name) then Some (NameTooLong i)
     else None
 
 -- what is wrong with the first bad name, where the first of the names stands at place i
@@ -52,9 +61,9 @@ free_fault text = if is_absolute text then names_fault 0 (names_in text) else So
 -- why `read` refuses a text
 abbrev pub path_fault : List ℕ → Option PathFault
 path_fault text =
-    if nat_lt 8000 (length text) then Some (PathTooLong (length text))
+    if nat_lt most_path_bytes (length text) then Some (PathTooLong (length text))
     else if not (is_absolute text) then Some Relative
-    else if nat_lt 1000 (length (names_in text)) then Some (TooDeep (length (names_in text)))
+    else if nat_lt most_path_names (length (names_in text)) then Some (TooDeep (length (names_in text)))
     else names_fault 0 (names_in text)
 
 -- what a reader answers to a text that has this fault or none, want of memory apart
@@ -78,11 +87,11 @@ parent_of (name ∷ names) = Some (take (length names) (name ∷ names))
 
 -- the path lies strictly below the other
 abbrev pub is_below : List (List ℕ) → List (List ℕ) → Bool
-is_below path other = starts_with same_name path other && nat_lt (length other) (length path)
+is_below path other = starts_with bytes_eq path other && nat_lt (length other) (length path)
 
--- a call may name the path: at most 1,000 names and 8,000 bytes
+-- the path is as short as a call's: at most 1,000 names, and 8,000 bytes in its text
 abbrev pub is_short : List (List ℕ) → Bool
-is_short path = nat_le (length path) 1000 && nat_le (length (text_of path)) 8000
+is_short path = nat_le (length path) most_path_names && nat_le (length (text_of path)) most_path_bytes
 
 -- the order of paths: as lists of names, and names by their bytes
 abbrev pub path_cmp : List (List ℕ) → List (List ℕ) → Ordering

@@ -5,6 +5,7 @@
 //! [`Name::read`] and [`User::read`] accept exactly their grammars, each refusal being the first by
 //! the stated order with its place; that keys have one total order, in which they are locked; that a
 //! list takes memory in `reserve` alone; and that a device fails only where its count of faults rose.
+//! [`laws`] says how paths and their texts go together.
 #![tactic(auto)]
 
 mod devices;
@@ -12,6 +13,7 @@ mod hint;
 mod ids;
 mod item_list;
 mod key;
+pub mod laws;
 mod memory;
 mod memory_sink;
 mod memory_source;

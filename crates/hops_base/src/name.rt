@@ -5,12 +5,16 @@ ghost use Rattle.std.specs.Ordering.{nat_cmp};
 ghost use Rattle.std.specs.List.{list_all};
 ghost use Rattle.std.specs.Cmp.{partial_equiv_from_equiv};
 ghost use Rattle.std.specs.Cmp.Lexicographic.{slice_cmp, texts_po, texts_ties, nat_list_cmp_total, nat_list_eq_equiv};
-ghost use Rattle.hops_base.specs.Name.{is_name, is_name_byte, same_name};
+ghost use Rattle.hops_base.specs.Name.{is_name, is_name_byte};
+ghost use Rattle.std.specs.Prelude.{bytes_eq};
 
 use crate::memory::NoMemory;
 use std::alloc::Global;
 use std::cmp::Ordering;
 use std::marker::Model;
+
+// The most bytes of a name.
+pub(crate) const MOST_NAME_BYTES: usize = 255;
 
 /// Why a text gave no name.
 #[derive(Clone, Copy, Debug, PartialEq, Eq)]
@@ -91,7 +95,7 @@ impl Name {
 fn is_good(text: &str) -> bool
     ensures { result ≡ is_name text.now }
 {
-    if text.is_empty() || text.len() > 255 {
+    if text.is_empty() || text.len() > MOST_NAME_BYTES {
         return false;
     }
     if text == "." || text == ".." {
@@ -107,7 +111,7 @@ fn has_good_bytes(bytes: &[u8]) -> bool
 }
 
 impl PartialEq for Name {
-    ghost eq = { same_name };
+    ghost eq = { bytes_eq };
 
     ghost laws = { partial_equiv_from_equiv nat_list_eq_equiv };
 

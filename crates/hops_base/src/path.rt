@@ -3,10 +3,11 @@
 ghost use Rattle.std.specs.Prelude.{◌≡◌, ◌≤◌, ◌∷◌, [], ◌++◌, ◌-◌, true, map, length, slice_get, option_copied, IfOk, refl};
 ghost use Rattle.std.specs.String.{string_bytes};
 ghost use Rattle.std.specs.List.{list_all};
+ghost use Rattle.std.specs.Str.{is_utf8};
 ghost use Rattle.std.specs.Cmp.{eq_by_cmp_equiv, partial_equiv_from_equiv, partial_order_from_agreeing_total};
 ghost use Rattle.std.specs.Ordering.{as_partial_cmp};
 ghost use Rattle.hops_base.specs.Name.{is_name};
-ghost use Rattle.hops_base.specs.Path.{path_fault, free_fault, IsPathRead, text_of, parent_of, is_below, is_short, path_cmp, same_path, path_cmp_total, is_piece, IsNamesRead};
+ghost use Rattle.hops_base.specs.Path.{path_fault, free_fault, IsPathRead, most_path_names, text_of, parent_of, is_below, is_short, path_cmp, same_path, path_cmp_total, is_piece, IsNamesRead};
 
 use crate::memory::NoMemory;
 use crate::name::Name;
@@ -16,6 +17,12 @@ use crate::path_text::{
 use std::alloc::Global;
 use std::cmp::Ordering;
 use std::marker::Model;
+
+// The most bytes in the text of a path that a call may name.
+const MOST_PATH_BYTES: usize = 8_000;
+
+// The most names in a path that a call may name.
+const MOST_PATH_NAMES: usize = 1_000;
 
 /// A path, seen as the list of its names; `/` is the empty list. Paths are ordered as lists, and names by
 /// their bytes.
@@ -52,7 +59,7 @@ impl Path {
         ensures read { IsPathRead (path_fault text.now) text.now result }
         ensures short { IfOk result (λ path. is_short path ≡ true) }
     {
-        if text.len() > 8000 {
+        if text.len() > MOST_PATH_BYTES {
             return Err(PathFault::PathTooLong(text.len() as u64));
         }
         if !begins_with_slash(text) {
@@ -61,7 +68,7 @@ impl Path {
         let Ok(names) = names_of(alloc, text) else {
             return Err(PathFault::NoMemory);
         };
-        if names.len() > 1000 {
+        if names.len() > MOST_PATH_NAMES {
             return Err(PathFault::TooDeep(names.len() as u64));
         }
         read_names(alloc, &names)
@@ -138,11 +145,12 @@ impl Path {
         self.names.starts_with(&other.names) && other.names.len() < self.names.len()
     }
 
-    /// Whether a call may name it: whether [`Path::read`] takes its text.
+    /// Whether a call may name it: whether [`Path::read`] takes its text. It consists of names anyhow.
     pub fn is_short(&self) -> bool
-        ensures { result ≡ is_short self.now }
+        ensures short { result ≡ is_short self.now }
+        ensures names { list_all is_name self.now ≡ true }
     {
-        self.names.len() <= 1000 && text_len(&self.names) <= 8000
+        self.names.len() <= MOST_PATH_NAMES && text_len(&self.names) <= MOST_PATH_BYTES
     }
 
     /// The same path again.
@@ -167,7 +175,8 @@ impl Path {
 
 // The path of these names, unless one is bad.
 fn read_names(alloc: Global, names: &[&str]) -> Result<Path, PathFault>
-    requires { list_all is_piece (map (λ name. name.now) names.now) ≡ true }
+    requires pieces { list_all is_piece (map (λ name. name.now) names.now) ≡ true }
+    requires texts { list_all is_utf8 (map (λ name. name.now) names.now) ≡ true }
     ensures { IsNamesRead (map (λ name. name.now) names.now) result }
 {
     if let Some(fault) = first_fault(names) {
@@ -181,7 +190,7 @@ fn read_names(alloc: Global, names: &[&str]) -> Result<Path, PathFault>
 
 // How many bytes the text of a path of these names has.
 fn text_len(names: &[Name]) -> usize
-    requires { length names.now ≤ 1000 }
+    requires { length names.now ≤ most_path_names }
     ensures { result ≡ length (text_of names.now) }
 {
     if names.is_empty() {

@@ -7,7 +7,7 @@ ghost use Rattle.hops_base.specs.Name.{is_name};
 ghost use Rattle.hops_base.specs.Path.{is_absolute, names_in, name_fault, names_fault, joined};
 
 use crate::memory::NoMemory;
-use crate::name::Name;
+use crate::name::{MOST_NAME_BYTES, Name};
 use std::alloc::Global;
 
 /// Why a text gave no path. Places count the names from 0. The rules are this project's own.
@@ -87,7 +87,7 @@ fn fault_at(i: u64, name: &str) -> Option<PathFault>
     if has_nul(name.as_bytes()) {
         return Some(PathFault::Nul(i));
     }
-    if name.len() > 255 {
+    if name.len() > MOST_NAME_BYTES {
         return Some(PathFault::NameTooLong(i));
     }
     None

@@ -4,12 +4,15 @@ ghost use Rattle.std.specs.Prelude.{◌≡◌, ◌↔◌, true, false, IfOk};
 ghost use Rattle.std.specs.List.{list_all};
 ghost use Rattle.std.specs.Cmp.{partial_equiv_from_equiv};
 ghost use Rattle.std.specs.Cmp.Lexicographic.{nat_list_eq_equiv};
-ghost use Rattle.hops_base.specs.Name.{same_name};
+ghost use Rattle.std.specs.Prelude.{bytes_eq};
 ghost use Rattle.hops_base.specs.User.{is_user, is_user_byte};
 
 use crate::memory::NoMemory;
 use std::alloc::Global;
 use std::marker::Model;
+
+// The most bytes of a user.
+const MOST_USER_BYTES: usize = 32;
 
 /// Why a text gave no user.
 #[derive(Clone, Copy, Debug, PartialEq, Eq)]
@@ -76,7 +79,7 @@ impl User {
 fn is_good(text: &str) -> bool
     ensures { result ≡ is_user text.now }
 {
-    !text.is_empty() && text.len() <= 32 && has_good_bytes(text.as_bytes())
+    !text.is_empty() && text.len() <= MOST_USER_BYTES && has_good_bytes(text.as_bytes())
 }
 
 fn has_good_bytes(bytes: &[u8]) -> bool
@@ -88,7 +91,7 @@ fn has_good_bytes(bytes: &[u8]) -> bool
 }
 
 impl PartialEq for User {
-    ghost eq = { same_name };
+    ghost eq = { bytes_eq };
 
     ghost laws = { partial_equiv_from_equiv nat_list_eq_equiv };
 

@@ -1,21 +1,23 @@
 -- What is answered to a call on the tables of which its view was read.
 use Rattle.std.proofs.Common.{◌≡◌, ℕ, zero, suc, ◌+◌, ◌-◌, ◌≤◌, ◌<◌, ◌^◌, Bool, true, false, ◌&&◌, nat_le, List, [], ◌∷◌, ◌++◌, length, slice_get, Option, Some, None, IfSome, ap, sym, subst, ◌∙◌, arith, length-append}
+use Rattle.std.proofs.lemmas.Bool.{and_parts}
 use Rattle.std.proofs.lemmas.Bool.Decides.{nat_tests}
 use Rattle.std.specs.List.{AllByRecursion, list_all, sum_by}
 use Rattle.std.specs.Cmp.{first_so}
 use Rattle.std.specs.Option.{option_map}
 use Rattle.hops_base.specs.Name.{is_name}
-use Rattle.hops_base.specs.Path.{is_short}
+use Rattle.hops_base.specs.Path.{most_path_names, is_short}
 use Rattle.name_space.specs.declared.call.Call.{Call}
 use Rattle.name_space.specs.declared.call.Call.TheVariants as call
 use Rattle.name_space.specs.declared.reply.Reply.{Reply}
-use Rattle.name_space.specs.Call.{paths_of, is_valid}
+use Rattle.name_space.specs.Call.{a_path, is_in_range, paths_of, is_valid}
+use Rattle.name_space.proofs.CallForms.{valid_paths}
 use Rattle.name_space.specs.Namespace.{Path}
-use Rattle.name_space.specs.SumLaws.{total-is}
+use Rattle.name_space.proofs.SumLaws.{total-is}
 use Rattle.commit_log.specs.declared.note.Note.{Note}
 use Rattle.commit_log.specs.declared.answer.CallEnd.TheVariants.{Done}
 use Rattle.commit_log.specs.Legal.{space}
-use Rattle.commit_log.specs.Samples.{client}
+use Rattle.hops_base.specs.Ids.{client}
 use Rattle.commit_log.specs.OneClient.{opens_turn, does_turn}
 use Rattle.inode_table.specs.declared.inode.Inode.{Inode}
 use Rattle.db_state.specs.State.{State, Inodes}
@@ -30,9 +32,11 @@ use Rattle.db_state.specs.declared.outcome.Outcome.TheVariants.{Answer}
 use Rattle.hops_base.specs.declared.key.Key.{Key}
 use Rattle.hops_base.specs.Roomy.{Roomy}
 use Rattle.hops_cli.specs.Built.{is_built}
-use Rattle.inode_ops.specs.Table.{IsAnswer, IsCallsTable}
-use Rattle.inode_ops.specs.Outcomes.{CanRaise, CanMake, path_of, IsViewOf, view_of_one}
-use Rattle.hops_cli.specs.Reading.{IsFound, IsViewAt}
+use Rattle.db_state.specs.CallsTable.{IsAnswer, IsCallsTable}
+use Rattle.inode_ops.specs.Outcomes.{CanRaise, CanMake, path_of, IsViewOf}
+use Rattle.inode_ops.proofs.ViewLaws.{can_make, view_of_one}
+use Rattle.db_state.specs.PlaceOf.{IsFound}
+use Rattle.hops_cli.specs.Reading.{IsViewAt}
 use Rattle.hops_cli.specs.Run.{rows_read}
 use Rattle.hops_cli.specs.Turning.{IsReady, IsTurned}
 use Rattle.hops_cli.proofs.CurrentLemmas.{view_current}
@@ -42,26 +46,17 @@ pub names_good : (state : State) (asked : Call) (view : View) (reads : ℕ) → 
 names_good state asked view reads read = ap (list_all (list_all is_name)) read.one ∙ ap (λ (b : Bool). b && true) read.read.good
 
 -- there are at most a thousand
-short_call : (asked : Call) (path : Path) → is_built asked ≡ true → is_valid asked ≡ true → paths_of asked ≡ path ∷ [] → is_short path ≡ true
-short_call (call.Mkdirs own) path small valid one = let same : own ≡ path = cc in subst (λ (p : Path). is_short p ≡ true) same valid
-short_call (call.Create own overwrite) path small valid one = let same : own ≡ path = cc in subst (λ (p : Path). is_short p ≡ true) same (valid)
-short_call (call.Append own) path small valid one = absurd (let bad = small in cc)
-short_call (call.Grow own bytes) path small valid one = absurd (let bad = small in cc)
-short_call (call.Close own) path small valid one = absurd (let bad = small in cc)
-short_call (call.Stat own) path small valid one = let same : own ≡ path = cc in subst (λ (p : Path). is_short p ≡ true) same valid
-short_call (call.List own) path small valid one = let same : own ≡ path = cc in subst (λ (p : Path). is_short p ≡ true) same (valid)
-short_call (call.Delete own recursive) path small valid one = let same : own ≡ path = cc in subst (λ (p : Path). is_short p ≡ true) same (valid)
-short_call (call.Rename source target) path small valid one = absurd (let bad = small in cc)
-short_call (call.Chmod own mode) path small valid one = let same : own ≡ path = cc in subst (λ (p : Path). is_short p ≡ true) same (first_so _ _ valid)
-short_call (call.SetQuota own names bytes) path small valid one = absurd (let bad = small in cc)
-short_call (call.Usage own) path small valid one = absurd (let bad = small in cc)
+short_call : (asked : Call) (path : Path) → is_valid asked ≡ true → paths_of asked ≡ path ∷ [] → is_short path ≡ true
+short_call asked path valid one =
+    let all = subst (λ (paths : List Path). list_all (λ (p : Path). is_in_range (a_path p)) paths ≡ true) one (valid_paths asked valid) in
+    (and_parts (list_all is_name path) (is_short path) (and_parts (is_in_range (a_path path)) true all).0).1
 
 few_names : (path : Path) → is_short path ≡ true → length path ≤ 1000
-few_names path short = let few : nat_le (length path) 1000 ≡ true = first_so _ _ short in grind (arith, nat_tests)
+few_names path short = let few : nat_le (length path) most_path_names ≡ true = first_so _ _ short in grind (arith, nat_tests)
 
 pub at_most : (state : State) (asked : Call) (view : View) (reads : ℕ) → is_built asked ≡ true → is_valid asked ≡ true → IsViewAt state asked view reads → sum_by length (paths_of asked) ≤ 1000
 at_most state asked view reads small valid read =
-    let few : length read.path ≤ 1000 = few_names read.path (short_call asked read.path small valid read.one) in
+    let few : length read.path ≤ 1000 = few_names read.path (short_call asked read.path valid read.one) in
     let sum : sum_by length (paths_of asked) ≡ length read.path + 0 = ap (sum_by length) read.one ∙ total-is length (read.path ∷ []) in
     omega arith
 
@@ -74,7 +69,7 @@ answer_is state user asked view reads outcome reply writes kept ready small read
       names = kept.names;
       stands = kept.stands;
       counts = kept.counts;
-      current = view_current state (client 0) asked view reads kept ready.limitless small read;
+      current = view_current state (client 0) asked view reads kept ready.limitless read;
     })
 
 -- the commit takes no more than a thousand ids
@@ -109,17 +104,12 @@ turned_by old new number asked reads reply told notes writes count is are counte
 path_named : (asked : Call) (path : Path) → is_built asked ≡ true → paths_of asked ≡ path ∷ [] → path_of asked ≡ Some path
 path_named (call.Mkdirs own) path small one = cc
 path_named (call.Create own overwrite) path small one = cc
-path_named (call.Append own) path small one = absurd (let bad = small in cc)
-path_named (call.Grow own bytes) path small one = absurd (let bad = small in cc)
-path_named (call.Close own) path small one = absurd (let bad = small in cc)
 path_named (call.Stat own) path small one = cc
 path_named (call.List own) path small one = cc
 path_named (call.Delete own true) path small one = absurd (let bad = small in cc)
 path_named (call.Delete own false) path small one = cc
-path_named (call.Rename source target) path small one = absurd (let bad = small in cc)
 path_named (call.Chmod own mode) path small one = cc
-path_named (call.SetQuota own names bytes) path small one = absurd (let bad = small in cc)
-path_named (call.Usage own) path small one = absurd (let bad = small in cc)
+path_named asked path small one = absurd (let bad = small in cc)
 
 -- a row that was found has an id that was given
 found_below : (inodes : Inodes) (next : ℕ) → IsTree inodes next → (rows : List (Key × Inode)) → AllByRecursion (IsFound inodes) rows → (i : ℕ) → IfSome (option_map (λ (found : Key × Inode). found.1) (slice_get rows i)) (λ (row : Inode). row.id.0 < next)
@@ -127,18 +117,15 @@ found_below inodes next tree [] all i = tt
 found_below inodes next tree (found ∷ rows) all zero = let range = tree.range found.0 found.1 all.0 in range.1
 found_below inodes next tree (found ∷ rows) all (suc i) = found_below inodes next tree rows all.1 i
 
-can_make : (state : State) (asked : Call) (view : View) (reads : ℕ) → IsConsistent state → state.next + 1000 < 2 ^ 64 → is_built asked ≡ true → is_valid asked ≡ true → (read : IsViewAt state asked view reads) → CanMake read.place view.quotas.items view.next.0
-can_make state asked view reads kept room small valid read =
-    let few : length read.path ≤ 1000 = few_names read.path (short_call asked read.path small valid read.one) in
-    let long : length read.place.path ≡ length read.path = ap length read.read.of in
+rows_fit : (state : State) (asked : Call) (view : View) (reads : ℕ) → IsConsistent state → state.next + 1000 < 2 ^ 64 → is_built asked ≡ true → is_valid asked ≡ true → (read : IsViewAt state asked view reads) → CanMake read.place view.quotas.items view.next.0
+rows_fit state asked view reads kept room small valid read =
+    let few : length read.path ≤ 1000 = few_names read.path (short_call asked read.path valid read.one) in
+    let long : length read.place.path ≡ length read.path = ap length read.read.is.of in
     let next : view.next.0 ≡ state.next = read.next in
-    record {
-      spells = read.read.spells;
-      below = subst (λ (n : ℕ). IfSome (deepest read.place) (λ (row : Inode). row.id.0 < n)) (sym next) (found_below state.inodes state.next kept.tree read.place.found.items read.read.there (length read.place.found.items - 1));
-      ids = omega arith;
-      raise = subst (CanRaise (length read.place.path)) (sym read.none) tt;
-    }
+    can_make read.place view.quotas.items view.next.0
+    (subst (λ (n : ℕ). IfSome (deepest read.place) (λ (row : Inode). row.id.0 < n)) (sym next) (found_below state.inodes state.next kept.tree read.place.found.items read.read.is.there (length read.place.found.items - 1)))
+    (omega arith) (subst (CanRaise (length read.place.path)) (sym read.none) tt)
 
 pub viewed : (state : State) (user : List ℕ) (asked : Call) (view : View) (reads : ℕ) → IsConsistent state → IsReady state user → is_built asked ≡ true → is_valid asked ≡ true → IsViewAt state asked view reads → IsViewOf view asked
 viewed state user asked view reads kept ready small valid read =
-    view_of_one asked read.place view read.only (path_named asked read.path small read.one ∙ ap (λ (p : Path). Some p) (sym read.read.of)) (can_make state asked view reads kept ready.room small valid read)
+    view_of_one asked read.place view read.only (path_named asked read.path small read.one ∙ ap (λ (p : Path). Some p) (sym read.read.is.of)) read.read.is.spells (rows_fit state asked view reads kept ready.room small valid read)

@@ -10,8 +10,6 @@ use Rattle.hops_base.specs.declared.ids.Mode.{Mode}
 use Rattle.hops_base.specs.declared.key.Key.{Key}
 use Rattle.hops_base.specs.declared.key.Key.TheVariants as key
 use Rattle.name_space.specs.declared.call.Call.{Call}
-use Rattle.name_space.specs.declared.call.Call.TheVariants as call
-use Rattle.name_space.specs.Call.{paths_of}
 use Rattle.name_space.specs.Namespace.{Path, entry_at}
 use Rattle.inode_table.specs.declared.inode.Inode.{Inode}
 use Rattle.inode_table.specs.declared.inode.Kind.{Kind}
@@ -25,9 +23,10 @@ use Rattle.db_state.specs.Consistent.{IsConsistent, IsUnflagged}
 use Rattle.db_state.specs.declared.view.Place.{Place}
 use Rattle.db_state.specs.declared.view.View.{View}
 use Rattle.db_state.specs.Plan.{plan}
-use Rattle.db_state.specs.Current.{places_of, is_locked, IsThere, IsCurrentPlace, is_unflagged, SeesQuotas, IsCurrent}
-use Rattle.hops_cli.specs.Built.{is_built}
-use Rattle.hops_cli.specs.Reading.{IsFound, IsPlaceOf, IsViewAt}
+use Rattle.db_state.specs.Current.{is_locked, IsThere, IsCurrentPlace, is_unflagged, SeesQuotas, IsCurrent}
+use Rattle.db_state.specs.PlaceOf.{IsFound, IsPlaceOf}
+use Rattle.db_state.proofs.ViewLaws.{one_path}
+use Rattle.hops_cli.specs.Reading.{IsViewAt}
 use Rattle.hops_cli.specs.Turning.{has_limit, IsLimitless}
 
 -- a directory's entry with a quota row that has a limit has one
@@ -86,23 +85,9 @@ sees_none quotas locked seen none is = subst (SeesQuotas quotas locked) (sym is)
     either true o = refl
     either false o = refl
 
--- the one path of a call that is run
-own_path : (asked : Call) (places : List Place) → is_built asked ≡ true → places_of asked places ≡ paths_of asked
-own_path (call.Mkdirs path) places e = refl
-own_path (call.Create path overwrite) places e = refl
-own_path (call.Append path) places e = cc
-own_path (call.Grow path bytes) places e = cc
-own_path (call.Close path) places e = cc
-own_path (call.Stat path) places e = refl
-own_path (call.List path) places e = refl
-own_path (call.Delete path recursive) places e = refl
-own_path (call.Rename source target) places e = cc
-own_path (call.Chmod path mode) places e = refl
-own_path (call.SetQuota path names bytes) places e = cc
-own_path (call.Usage path) places e = cc
-
-place_current : (inodes : Inodes) (locked : List (Key × Mode)) (path : Path) (place : Place) (reads : ℕ) → IsUnflagged inodes → IsPlaceOf inodes path place reads → IsCurrentPlace inodes locked None place
-place_current inodes locked path place reads bare read = record {
+-- the place that rows without flags have for a path is current
+place_current : (inodes : Inodes) (locked : List (Key × Mode)) (path : Path) (place : Place) → IsUnflagged inodes → IsPlaceOf inodes path place → IsCurrentPlace inodes locked None place
+place_current inodes locked path place bare read = record {
   spells = read.spells;
   there = there_all inodes locked place.found.items read.there;
   missing = read.gone;
@@ -111,13 +96,13 @@ place_current inodes locked path place reads bare read = record {
 }
 
 -- the view that was read of the rows is current with them
-pub view_current : (state : State) (client : ClientNo) (asked : Call) (view : View) (reads : ℕ) → IsConsistent state → IsLimitless (space state.settings.users state.notes) → is_built asked ≡ true → IsViewAt state asked view reads
+pub view_current : (state : State) (client : ClientNo) (asked : Call) (view : View) (reads : ℕ) → IsConsistent state → IsLimitless (space state.settings.users state.notes) → IsViewAt state asked view reads
     → IsCurrent state.inodes state.quotas None client asked view
-view_current state client asked view reads kept limitless runnable read =
+view_current state client asked view reads kept limitless read =
     let locked : List (Key × Mode) = plan client asked view.places.items in
     record {
-      places = ap (list_map (λ (place : Place). place.path)) read.only ∙ ap (λ (p : Path). p ∷ []) read.read.of ∙ sym read.one ∙ sym (own_path asked view.places.items runnable);
-      current = subst (AllByRecursion (IsCurrentPlace state.inodes locked None)) (sym read.only) (place_current state.inodes locked read.path read.place reads kept.flags read.read, tt);
+      places = ap (list_map (λ (place : Place). place.path)) read.only ∙ ap (λ (p : Path). p ∷ []) read.read.is.of ∙ sym (one_path asked read.path view.places.items read.one);
+      current = subst (AllByRecursion (IsCurrentPlace state.inodes locked None)) (sym read.only) (place_current state.inodes locked read.path read.place kept.flags read.read.is, tt);
       children = read.children;
       quotas = sees_none state.quotas locked view.quotas.items (no_quota state kept limitless) read.none;
       next = λ at row there. let range = kept.tree.range at row there in subst (λ (n : ℕ). row.id.0 < n) (sym read.next) range.1;

@@ -11,13 +11,13 @@ use Rattle.hops_base.specs.declared.ids.ClientNo.{ClientNo}
 use Rattle.name_space.specs.Namespace.{Namespace, Path, entry_at, exists, is_within, new_dir, opening, missing, with_entry, without}
 use Rattle.name_space.specs.declared.entry.Entry.TheVariants as entry
 use Rattle.name_space.specs.declared.reply.Reply.TheVariants.{Truth}
-use Rattle.name_space.specs.NamespaceLaws.{entry_at-with_dirs, entry_at-with_entry, entry_at-without}
+use Rattle.name_space.proofs.NamespaceLaws.{entry_at-with_dirs, entry_at-with_entry, entry_at-without}
 use Rattle.name_space.specs.Cut.{is_among}
 use Rattle.name_space.specs.Plain.{with_dirs, unless, told, granted, new_file, stat_at, list_at, is_root, with_mode, with_some, changed_at, Answered}
 use Rattle.name_space.specs.Calls.{plain}
 use Rattle.commit_log.specs.Legal.{applied, space, space_from}
 use Rattle.commit_log.specs.OneClient.{Turn, calls_made, turns_book}
-use Rattle.commit_log.specs.Samples.{client}
+use Rattle.hops_base.specs.Ids.{client}
 use Rattle.hops_cli.specs.Built.{is_built}
 use Rattle.hops_cli.specs.Turning.{has_limit, IsLimitless}
 

@@ -12,11 +12,13 @@ use Rattle.commit_log.specs.declared.note.Note.{Note}
 use Rattle.commit_log.specs.declared.answer.AnswerLine.{AnswerLine}
 use Rattle.commit_log.specs.declared.answer.CallEnd.{CallEnd}
 use Rattle.commit_log.specs.declared.answer.CallEnd.TheVariants.{Done}
-use Rattle.commit_log.specs.Along.{Each, Each-none, Each-push}
-use Rattle.commit_log.specs.Legal.{space, space-push}
-use Rattle.commit_log.specs.Samples.{client}
+use Rattle.commit_log.specs.Along.{Each}
+use Rattle.commit_log.proofs.AlongLaws.{Each-none, Each-push}
+use Rattle.commit_log.specs.Legal.{space}
+use Rattle.commit_log.proofs.SpaceLaws.{space-push}
+use Rattle.hops_base.specs.Ids.{client}
 use Rattle.commit_log.specs.OneClient.{Turn, calls_made, opens_turn, does_turn, turns_book, turn_line, turns_lines}
-use Rattle.commit_log.specs.OneClientLaws.{turns_book-push, turns_lines-push, calls_made-push, length-turns_book}
+use Rattle.commit_log.proofs.OneClientLaws.{turns_book-push, turns_lines-push, calls_made-push, length-turns_book}
 use Rattle.db_state.specs.Settings.{Settings}
 use Rattle.db_state.specs.State.{State}
 use Rattle.hops_cli.specs.Built.{is_built}

@@ -11,8 +11,9 @@ use Rattle.inode_table.specs.declared.inode.Kind.{Kind}
 use Rattle.inode_table.specs.declared.inode.Kind.TheVariants.{Dir, File}
 use Rattle.db_state.specs.State.{Inodes, root_key, root_row}
 use Rattle.db_state.specs.declared.view.Place.{Place}
-use Rattle.db_state.specs.Current.{stops_at}
-use Rattle.hops_cli.specs.Reading.{IsFound, IsRead, IsLastsChild, IsPlaceOf}
+use Rattle.db_state.specs.Current.{stops_at, IsLastsChild}
+use Rattle.db_state.specs.PlaceOf.{IsFound}
+use Rattle.hops_cli.specs.Reading.{IsRead, IsResolved}
 
 -- at the end of the names nothing is read
 pub read_end : (inodes : Inodes) (row : Inode) (before : List (Key × Inode)) → IsRead inodes row [] before before None 0
@@ -75,17 +76,19 @@ read_more inodes row next name names before after missing reads is there more =
 -- below the root's row alone it is the place of the path
 pub place_read : (inodes : Inodes) (path : List (List ℕ)) (place : Place) (before : List (Key × Inode)) (reads : ℕ)
     → place.path ≡ path → list_all is_name path ≡ true → before ≡ (root_key, root_row) ∷ [] → map.get inodes root_key ≡ Some root_row
-    → IsRead inodes root_row path before place.found.items place.missing reads → IsLastsChild inodes place.found.items place.has_child → IsPlaceOf inodes path place reads
+    → IsRead inodes root_row path before place.found.items place.missing reads → IsLastsChild inodes place.found.items place.has_child → IsResolved inodes path place reads
 place_read inodes path place before reads of good alone root read child =
     let rows : place.found.items ≡ (root_key, root_row) ∷ read.rows = read.added ∙ ap (λ (xs : List (Key × Inode)). xs ++ read.rows) alone in
     let count : length place.found.items ≡ suc (length read.rows) = ap length rows in
     let counted : reads ≡ length read.rows + length (option_to_list place.missing) = read.counted in
     record {
-      of = of;
       good = good;
-      spells = rw (rows, of) (refl, read.leads);
-      there = subst (AllByRecursion (IsFound inodes)) (sym rows) (root, read.there);
-      gone = read.gone;
-      child = child;
+      is = record {
+        of = of;
+        spells = rw (rows, of) (refl, read.leads);
+        there = subst (AllByRecursion (IsFound inodes)) (sym rows) (root, read.there);
+        gone = read.gone;
+        child = child;
+      };
       counted = omega arith;
     }

@@ -8,11 +8,13 @@ use Rattle.name_space.specs.Calls.{as_read, replies_of, space_after}
 use Rattle.name_space.specs.Script.{Script, ClientCalls, users_of}
 use Rattle.commit_log.specs.declared.note.Note.{Note}
 use Rattle.commit_log.specs.declared.answer.AnswerLine.{AnswerLine}
-use Rattle.commit_log.specs.Along.{Each, Each-none}
-use Rattle.commit_log.specs.Legal.{Legal, space, space-none}
-use Rattle.commit_log.specs.Samples.{client}
+use Rattle.commit_log.specs.Along.{Each}
+use Rattle.commit_log.proofs.AlongLaws.{Each-none}
+use Rattle.commit_log.specs.Legal.{Legal, space}
+use Rattle.commit_log.proofs.SpaceLaws.{space-none}
+use Rattle.hops_base.specs.Ids.{client}
 use Rattle.commit_log.specs.OneClient.{Turn, calls_made, replies_told, turns_book, turns_lines, MadeBy, IsSingleRun}
-use Rattle.commit_log.specs.OneClientLaws.{single_told, single_kept, replies-from_legal, space-turns_book, made-none, made-one}
+use Rattle.commit_log.proofs.OneClientLaws.{single_told, single_kept, replies-from_legal, space-turns_book, made-none, made-one}
 use Rattle.db_state.specs.State.{State}
 use Rattle.hops_cli.specs.Built.{IsBuilt}
 use Rattle.hops_cli.specs.Run.{reply_in, TellsReads, IsPlainRun, IsRun}

@@ -1,4 +1,4 @@
--- One commit that opens and answers a call keeps the tables and the book in accord.
+-- One commit that opens and answers a call keeps the tables and the book consistent.
 use Rattle.std.proofs.Common.{◌≡◌, ℕ, true, List, [], ◌∷◌, ◌++◌, slice_get, unwrap_or, Option, Some, refl, ap, sym, subst, ◌∙◌, append_assoc}
 use Rattle.std.specs.List.{list_all}
 use Rattle.hops_base.specs.declared.key.Key.{Key}
@@ -11,22 +11,24 @@ use Rattle.name_space.specs.Plain.{Answered}
 use Rattle.name_space.specs.Calls.{plain, as_read}
 use Rattle.name_space.specs.Laws.{PlainKeepsANamespace}
 use Rattle.commit_log.specs.declared.note.Note.{Note}
-use Rattle.commit_log.specs.Along.{Each-push}
-use Rattle.commit_log.specs.Legal.{Legal, LegalAt, applied, space, space-push}
-use Rattle.commit_log.specs.Ids.{Numbering, ids, ids-push, numbering_after}
-use Rattle.commit_log.specs.IdLaws.{ids-exists, ids-quiet}
-use Rattle.commit_log.specs.Samples.{session, client}
+use Rattle.commit_log.proofs.AlongLaws.{Each-push}
+use Rattle.commit_log.specs.Legal.{Legal, LegalAt, applied, space}
+use Rattle.commit_log.proofs.SpaceLaws.{space-push}
+use Rattle.commit_log.specs.Ids.{Numbering, ids, numbering_after}
+use Rattle.commit_log.proofs.NumberingLaws.{ids-push}
+use Rattle.commit_log.proofs.IdLaws.{ids-exists, ids-quiet}
+use Rattle.hops_base.specs.Ids.{session, client}
 use Rattle.commit_log.specs.OneClient.{Turn, opens_turn, does_turn}
 use Rattle.db_state.specs.State.{State, Tables}
 use Rattle.db_state.specs.Spelled.{AreGiven}
 use Rattle.db_state.specs.Stands.{Stands}
 use Rattle.db_state.specs.Counts.{Counts}
 use Rattle.db_state.specs.Consistent.{IsConsistent}
-use Rattle.db_state.specs.FlagLaws.{unflagged_stays}
+use Rattle.db_state.proofs.FlagLaws.{unflagged_stays}
 use Rattle.db_state.specs.Written.{tables_of, state_of, written, next_after, committed}
 use Rattle.db_state.specs.declared.view.View.{View}
 use Rattle.db_state.specs.declared.writes.Row.{Row}
-use Rattle.inode_ops.specs.Table.{IsNumberedBy, IsAnswer}
+use Rattle.db_state.specs.CallsTable.{IsNumberedBy, IsAnswer}
 
 -- what is appended is a turn of the one client
 module _ (state : State) (user : List ℕ) (asked : Call) (number reads : ℕ) (reply : Reply)
@@ -72,7 +74,7 @@ module _ (state : State) (user : List ℕ) (asked : Call) (number reads : ℕ) (
       ∙ ap (λ (old : Namespace). numbering_after (ids state.settings.users state.notes) old (applied state.settings.users old (client 0) asked).space (does_turn number turn)) same_space
       ∙ ap (λ (a : Answered). numbering_after (ids state.settings.users state.notes) before a.space (does_turn number turn)) (applies before)
 
-  -- the tables and the book after the commit are in accord
+  -- the tables and the book after the commit are consistent
   pub consistent_next : (view : View) (writes : List (Key × Option Row)) (notes : List Note) → PlainKeepsANamespace → list_all (list_all is_name) (paths_of asked) ≡ true → view.next.0 ≡ state.next
       → IsAnswer (tables_of state) (space state.settings.users state.notes) (client 0) user asked view reply writes → notes ≡ opens_turn number ∷ does_turn number (record { call = asked; reads = reads; reply = reply }) ∷ []
       → IsConsistent (committed state writes notes)

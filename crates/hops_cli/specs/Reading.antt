@@ -1,6 +1,5 @@
 -- What the resolution of a call's path reads. This project's own.
-use Rattle.std.specs.Prelude.{◌≡◌, ℕ, ◌+◌, ◌≤◌, List, [], ◌∷◌, ◌++◌, true, length, Option, Some, IfSome, option_to_list, Bool, nat_lt}
-use Rattle.std.specs.FinMap as map
+use Rattle.std.specs.Prelude.{◌≡◌, ℕ, ◌+◌, ◌≤◌, List, [], ◌∷◌, ◌++◌, true, length, Option, option_to_list}
 use Rattle.std.specs.List.{AllByRecursion, list_all}
 use Rattle.hops_base.specs.declared.key.Key.{Key}
 use Rattle.hops_base.specs.Name.{is_name}
@@ -8,16 +7,11 @@ use Rattle.inode_table.specs.declared.inode.Inode.{Inode}
 use Rattle.name_space.specs.declared.call.Call.{Call}
 use Rattle.name_space.specs.Call.{paths_of}
 use Rattle.name_space.specs.Namespace.{Path}
-use Rattle.row_store.specs.Children.{child_count}
 use Rattle.db_state.specs.declared.view.Place.{Place}
 use Rattle.db_state.specs.declared.view.View.{View}
 use Rattle.db_state.specs.State.{Inodes, State}
-use Rattle.db_state.specs.Plan.{last}
-use Rattle.db_state.specs.Current.{children_told, Leads, SpellsPlace, IsMissing, KnowsChild}
-
--- the row that was found is the table's
-abbrev pub IsFound : Inodes → Key × Inode → Type 0
-IsFound inodes found = map.get inodes found.0 ≡ Some found.1
+use Rattle.db_state.specs.Current.{children_told, Leads, IsMissing}
+use Rattle.db_state.specs.PlaceOf.{IsFound, IsPlaceOf}
 
 -- from this row the names lead through rows of the table, which were added to those found before, to this first missing
 -- key. Each row was read, and so was the missing one
@@ -30,18 +24,11 @@ pub record IsRead (inodes : Inodes) (row : Inode) (names : List (List ℕ)) (bef
   pub counted : reads ≡ length rows + length (option_to_list missing)
   pub few : reads ≤ length names
 
--- the bit says whether the last of these rows has a child
-abbrev pub IsLastsChild : Inodes → List (Key × Inode) → Bool → Type 0
-IsLastsChild inodes found has_child = IfSome (last found) (λ (r : Key × Inode). has_child ≡ nat_lt 0 (child_count inodes r.1.id))
-
--- the place is what the rows have for the path: the root's row, which needs no read, and those that were read below it
-pub record IsPlaceOf (inodes : Inodes) (path : Path) (place : Place) (reads : ℕ) : Type 0 where
-  pub of : place.path ≡ path
+-- the place is the one that the rows have for the path, which consists of names, with the count of rows read for it: each
+-- but the root's, and the missing one
+pub record IsResolved (inodes : Inodes) (path : Path) (place : Place) (reads : ℕ) : Type 0 where
   pub good : list_all is_name path ≡ true
-  pub spells : SpellsPlace place
-  pub there : AllByRecursion (IsFound inodes) place.found.items
-  pub gone : IsMissing inodes place.missing
-  pub child : KnowsChild inodes place
+  pub is : IsPlaceOf inodes path place
   pub counted : reads + 1 ≡ length place.found.items + length (option_to_list place.missing)
 
 -- the view is what the rows have for the one path of the call, with the children that a `list` tells and without quota
@@ -51,7 +38,7 @@ pub record IsViewAt (state : State) (call : Call) (view : View) (reads : ℕ) : 
   pub place : Place
   pub one : paths_of call ≡ path ∷ []
   pub only : view.places.items ≡ place ∷ []
-  pub read : IsPlaceOf state.inodes path place reads
+  pub read : IsResolved state.inodes path place reads
   pub none : view.quotas.items ≡ []
   pub children : view.children.items ≡ children_told state.inodes call view.places.items
   pub next : view.next.0 ≡ state.next

@@ -16,7 +16,7 @@ use Rattle.commit_log.specs.Legal.{space}
 use Rattle.commit_log.specs.Told.{Told}
 use Rattle.commit_log.specs.Kept.{KeptWithoutLocks}
 use Rattle.commit_log.specs.OneClient.{Turn, turns_book}
-use Rattle.commit_log.specs.Samples.{client}
+use Rattle.hops_base.specs.Ids.{client}
 use Rattle.report_text.specs.Report.{report_text}
 
 -- the reply that a call was answered

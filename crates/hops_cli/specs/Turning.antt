@@ -5,6 +5,7 @@ use Rattle.name_space.specs.declared.call.Call.{Call}
 use Rattle.name_space.specs.declared.entry.Entry.{Entry}
 use Rattle.name_space.specs.declared.entry.Entry.TheVariants.{Dir, File}
 use Rattle.name_space.specs.declared.reply.Reply.{Reply}
+use Rattle.hops_base.specs.Path.{most_path_names}
 use Rattle.name_space.specs.Call.{paths_of}
 use Rattle.name_space.specs.Script.{ClientCalls}
 use Rattle.name_space.specs.Namespace.{Namespace, Path, entry_at}
@@ -42,7 +43,7 @@ pub record IsNew (users : List (List ℕ)) (state : State) (lines : List AnswerL
 pub record IsReady (state : State) (user : List ℕ) : Type 0 where
   pub acts : slice_get state.settings.users 0 ≡ Some user
   pub limitless : IsLimitless (space state.settings.users state.notes)
-  pub room : state.next + 1000 < 2 ^ 64
+  pub room : state.next + most_path_names < 2 ^ 64
 
 -- one commit opened and answered the call of this number, and tells the rows read for its path
 pub record IsTurned (old new : State) (number : ℕ) (call : Call) (end : CallEnd) : Type 0 where
@@ -52,7 +53,7 @@ pub record IsTurned (old new : State) (number : ℕ) (call : Call) (end : CallEn
   pub told : end ≡ Done (length old.notes + 1) reply
   pub counted : reads ≡ sum_by (rows_read (space old.settings.users old.notes)) (paths_of call)
   pub settings : new.settings ≡ old.settings
-  pub few : new.next ≤ old.next + 1000
+  pub few : new.next ≤ old.next + most_path_names
 
 -- so many of the calls have been answered, each telling the rows read for its path, and nothing else was written
 pub record AreTurned (users : List (List ℕ)) (calls : List Call) (count : ℕ) (state : State) (lines : List AnswerLine) : Type 0 where
@@ -62,7 +63,7 @@ pub record AreTurned (users : List (List ℕ)) (calls : List Call) (count : ℕ)
   pub told : lines ≡ turns_lines 0 turns
   pub reads : Each (TellsReads users) state.notes
   pub acting : state.settings.users ≡ users
-  pub few : state.next ≤ 2 + 1000 * count
+  pub few : state.next ≤ 2 + most_path_names * count
 
 -- all calls of all clients have been answered: there is at most one
 abbrev pub AreAllTurned : List ClientCalls → State → List AnswerLine → Type 0

@@ -2,8 +2,9 @@
 use Rattle.std.specs.Prelude.{ℕ, Bool, ◌&&◌, nat_le, nat_lt, if◌then◌else◌, List, length, slice_get, Option, Some, None, Result, Ok, Err, codes}
 use Rattle.std.specs.List.{list_all}
 use Rattle.std.specs.Str.Parse.{digits_value}
-use Rattle.hops_base.specs.Name.{same_name}
+use Rattle.std.specs.Prelude.{bytes_eq}
 use Rattle.name_space.specs.Script.{most_clients}
+use Rattle.script_text.specs.Generator.{most_generated_calls}
 use Rattle.hops_cli.specs.declared.words.Command.{Command}
 use Rattle.hops_cli.specs.declared.words.Command.TheVariants.{Run, Gen}
 
@@ -23,11 +24,12 @@ is_number_in lowest highest word = is_number word && nat_le lowest (digits_value
 abbrev pub number_or : ℕ → ℕ → ℕ → List ℕ → Result ℕ ℕ
 number_or place lowest highest word = if is_number_in lowest highest word then Ok (digits_value 10 word) else Err place
 
--- the number at a place of the words; a word that is missing there is told by how many there are
+-- the number that a word is, where there is one; a word that is missing is told by its place
 abbrev pub number_of_word : ℕ → ℕ → ℕ → Option (List ℕ) → Result ℕ ℕ
 number_of_word place lowest highest None = Err place
 number_of_word place lowest highest (Some word) = number_or place lowest highest word
 
+-- the number at a place of these words, in its range
 abbrev pub number_at : List (List ℕ) → ℕ → ℕ → ℕ → Result ℕ ℕ
 number_at words place lowest highest = number_of_word place lowest highest (slice_get words place)
 
@@ -40,12 +42,9 @@ abbrev pub with_number : {A : Type 0} → Result ℕ ℕ → (ℕ → Result A �
 with_number (Ok number) next = next number
 with_number (Err place) next = Err place
 
--- the highest seed, and the most calls that a generated client has
+-- the highest seed
 abbrev pub highest_seed : ℕ
 highest_seed = 4294967295
-
-abbrev pub most_generated_calls : ℕ
-most_generated_calls = 5000
 
 -- `gen` with a seed, how many clients, and how many calls each has
 abbrev pub gen_asked : List (List ℕ) → Result Command ℕ
@@ -58,7 +57,7 @@ gen_asked words =
 -- the command that begins with this word
 abbrev pub asked_first : List (List ℕ) → Option (List ℕ) → Result Command ℕ
 asked_first words None = Err 0
-asked_first words (Some first) = if same_name first (codes "run") then ended words 1 Run else if same_name first (codes "gen") then gen_asked words else Err 0
+asked_first words (Some first) = if bytes_eq first (codes "run") then ended words 1 Run else if bytes_eq first (codes "gen") then gen_asked words else Err 0
 
 -- what the words ask for, or the place of the first bad word, or of the missing one
 abbrev pub asked_by : List (List ℕ) → Result Command ℕ

@@ -2,6 +2,7 @@
 
 ghost use Rattle.std.specs.Prelude.{◌≡◌, ◌≤◌, ◌<◌, length, not, IfSome};
 ghost use Rattle.std.specs.List.{position_from};
+ghost use Rattle.name_space.specs.Script.{most_calls};
 ghost use Rattle.hops_cli.specs.Built.{is_built, unbuilt_in, unbuilt};
 
 use name_space::Call;
@@ -27,7 +28,7 @@ pub fn unbuilt(script: &Script) -> Option<(u32, u32)>
 
 // The number of the first call of a kind that isn't built.
 fn unbuilt_in(calls: &[Call]) -> Option<u32>
-    requires { length calls.now ≤ 65536 }
+    requires { length calls.now ≤ most_calls }
     ensures { result ≡ unbuilt_in calls.now }
 {
     let place = unbuilt_place(calls)?;

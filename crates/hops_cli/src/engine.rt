@@ -44,7 +44,7 @@ pub fn run(alloc: Global, script: &Script) -> Result<Ran, NoMemory>
     let mut db = Db::start(alloc, &settings)?;
     let mut answers = AnswerList::new(alloc);
     run_clients(alloc, &mut db, script.clients(), &mut answers)?;
-    db.accord();
+    db.consistent();
     let tree = tree_of(alloc, &db)?;
     Ok(Ran {
         book: db.into_book(),
@@ -128,7 +128,7 @@ fn run_call(
     requires ready { IsReady db.old user.now }
     ensures { IfOk result (λ end. IsTurned db.old db.new number call.now end) }
 {
-    db.accord();
+    db.consistent();
     laws::plain_keeps_a_namespace();
     let (view, reads) = view_of(alloc, db, call)?;
     let Outcome::Answer(reply, writes) = outcome(alloc, &view, CLIENT, user, call)? else {

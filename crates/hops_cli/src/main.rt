@@ -16,6 +16,8 @@ ghost use Rattle.hops_cli.specs.Ends.{Ends, generated_line};
 ghost use Rattle.hops_cli.specs.Built.{IsBuilt};
 ghost use Rattle.hops_cli.specs.Run.{IsReportOf};
 ghost use Rattle.hops_cli.specs.Words.{asked_by};
+ghost use Rattle.name_space.specs.Script.{most_clients};
+ghost use Rattle.script_text.specs.Generator.{most_generated_calls};
 
 mod built;
 mod engine;
@@ -101,8 +103,8 @@ pub fn make_script<W: Sink>(
     sink: &mut W,
 ) -> Status
     requires some { 1 ≤ clients }
-    requires few { clients ≤ 64 }
-    requires short { calls ≤ 5000 }
+    requires few { clients ≤ most_clients }
+    requires short { calls ≤ most_generated_calls }
     ensures { (stock : Stock) → Ends (Ok (Gen seed clients calls)) result stock stock (W.store sink.old) (W.store sink.new) }
 {
     let Ok(text) = generated_text(alloc, seed, clients, calls) else {
@@ -118,8 +120,8 @@ pub fn make_script<W: Sink>(
 // The canonical text of the script, and a newline.
 fn generated_text(alloc: Global, seed: u32, clients: u32, calls: u32) -> Result<Vec<u8>, NoMemory>
     requires some { 1 ≤ clients }
-    requires few { clients ≤ 64 }
-    requires short { calls ≤ 5000 }
+    requires few { clients ≤ most_clients }
+    requires short { calls ≤ most_generated_calls }
     ensures { IfOk result (λ text. text.items ≡ generated_line seed clients calls) }
 {
     let script = generate(alloc, seed, clients, calls)?;

@@ -1,12 +1,13 @@
 //! Paths, read name by name.
 
 ghost use Rattle.std.specs.Prelude.{◌≡◌, ◌+◌, ◌≤◌, ◌<◌, ◌^◌, [], ◌∷◌, true, length, option_copied, option_to_list, IfOk};
+ghost use Rattle.hops_base.specs.Path.{most_path_names};
 ghost use Rattle.db_state.specs.State.{root_key, root_row};
 ghost use Rattle.db_state.specs.Plan.{own_dir};
-ghost use Rattle.db_state.specs.Current.{children_told};
+ghost use Rattle.db_state.specs.Current.{children_told, IsLastsChild};
 ghost use Rattle.name_space.specs.Call.{is_valid, paths_of};
 ghost use Rattle.hops_cli.specs.Built.{is_built};
-ghost use Rattle.hops_cli.specs.Reading.{IsRead, IsPlaceOf, IsViewAt, IsLastsChild};
+ghost use Rattle.hops_cli.specs.Reading.{IsRead, IsResolved, IsViewAt};
 
 use db_state::{Db, FoundList, Place, PlaceList, QuotaList, View, listing_of};
 use hops_base::{ItemList, Key, Name, NoMemory, Path};
@@ -40,7 +41,7 @@ fn path_of(call: &Call) -> &Path
     requires small { is_built call.now ≡ true }
     requires valid { is_valid call.now ≡ true }
     ensures path { paths_of call.now ≡ result.now ∷ [] }
-    ensures short { length result.now ≤ 1000 }
+    ensures short { length result.now ≤ most_path_names }
 {
     match call {
         Call::Mkdirs(path)
@@ -83,8 +84,8 @@ fn own_dir(place: &Place) -> Option<&Inode>
 // Reads the rows of the path from the root's on, which needs no read, up to the end of the path, its first
 // missing name or a file.
 fn resolve(alloc: Global, db: &Db, path: &Path) -> Result<(Place, u64), NoMemory>
-    requires { length path.now ≤ 1000 }
-    ensures { IfOk result (λ resolved. IsPlaceOf db.now.inodes path.now resolved.0 resolved.1) }
+    requires { length path.now ≤ most_path_names }
+    ensures { IfOk result (λ resolved. IsResolved db.now.inodes path.now resolved.0 resolved.1) }
 {
     let mut found = root_alone(alloc, db, path.len())?;
     let (missing, reads) = read_below(db, db.root(), path.names(), &mut found)?;

@@ -15,10 +15,11 @@ use Rattle.db_state.specs.Stands.{Quotas, quota_of}
 use Rattle.db_state.specs.Written.{written}
 use Rattle.db_state.specs.declared.view.Place.{Place}
 use Rattle.db_state.specs.QuotaWrites.{quota_writes, raised}
-use Rattle.db_state.specs.QuotaWriteLaws.{AreOf, is_written, recounted_written, becomes_raised}
+use Rattle.db_state.specs.QuotaWrites.{AreOf, is_written}
+use Rattle.db_state.proofs.QuotaWriteLaws.{recounted_written, becomes_raised}
 use Rattle.db_state.specs.Recounted.{is_along, Change, Becomes, IsRecounted}
-use Rattle.db_state.specs.CountLaws.{is_along-within}
-use Rattle.db_state.specs.GrowthLaws.{names_more}
+use Rattle.db_state.proofs.CountLaws.{is_along-within}
+use Rattle.db_state.specs.Recounted.{names_more}
 use Rattle.inode_ops.specs.QuotaSteps.{quota_in, has_id, IsQuotaFound, AreQuotasFound}
 use Rattle.inode_ops.proofs.CountLemmas.{written_found}
 use Rattle.inode_ops.proofs.WalkLemmas.{found_above, found_within}

@@ -1,33 +1,34 @@
 -- Answers that change one row in place, against the calls table.
 use Rattle.std.proofs.Common.{◌≡◌, ◌≢◌, ℕ, ◌+◌, ◌<◌, Bool, true, false, cond, not, ◌||◌, max, List, [], ◌∷◌, Option, Some, None, is_some, option_map, arith, inl, inr, refl, sym, ap, subst, ◌∙◌}
 use Rattle.std.specs.FinMap as map
-use Rattle.hops_base.specs.Tells.{paths_tell}
+use Rattle.hops_base.proofs.Tells.{paths_tell}
 use Rattle.hops_base.specs.declared.ids.ClientNo.{ClientNo}
 use Rattle.hops_base.specs.declared.key.Key.{Key}
 use Rattle.name_space.specs.declared.call.Call.{Call}
 use Rattle.name_space.specs.declared.reply.Reply.{Reply}
 use Rattle.name_space.specs.declared.reply.Reply.TheVariants.{Truth, Refused}
 use Rattle.name_space.specs.Namespace.{Namespace, Path, IsNamespace, entry_at, exists, is_within, missing, with_entry, bytes_of}
-use Rattle.name_space.specs.NamespaceLaws.{Rises, Rises-with_entry, entry_at-with_entry, dir-exists}
+use Rattle.name_space.specs.Namespace.{Rises}
+use Rattle.name_space.proofs.NamespaceLaws.{Rises-with_entry, entry_at-with_entry, dir-exists}
 use Rattle.name_space.specs.Plain.{Answered, granted}
 use Rattle.name_space.specs.Call.{changes}
 use Rattle.name_space.specs.Calls.{plain, as_read}
 use Rattle.commit_log.specs.declared.note.Note.{Note}
 use Rattle.commit_log.specs.declared.note.Note.TheVariants.{Did}
 use Rattle.commit_log.specs.Ids.{Numbering, id_at, with_new, move_of, move_in, numbering_after}
-use Rattle.commit_log.specs.NumberLaws.{numbering-missing}
+use Rattle.commit_log.proofs.NumberLaws.{numbering-missing}
 use Rattle.inode_table.specs.declared.inode.Inode.{Inode}
 use Rattle.db_state.specs.State.{Tables}
-use Rattle.db_state.specs.Spelled.{row_of, IsTree}
+use Rattle.db_state.specs.Spelled.{row_of, FitsKind, IsTree}
 use Rattle.db_state.specs.Stands.{entry_of, Stands}
 use Rattle.db_state.specs.Counts.{Counts}
-use Rattle.db_state.specs.ChangeLaws.{tree_changed, stands_changed, given_changed, flags_changed}
-use Rattle.db_state.specs.CountLaws.{counts_changed_plain}
-use Rattle.db_state.specs.RemoveLaws.{not_root_key}
+use Rattle.db_state.proofs.ChangeLaws.{tree_changed, stands_changed, given_changed, flags_changed}
+use Rattle.db_state.proofs.CountLaws.{counts_changed_plain}
+use Rattle.db_state.proofs.RemoveLaws.{not_root_key}
 use Rattle.db_state.specs.declared.view.View.{View}
 use Rattle.db_state.specs.declared.writes.Row.{Row}
 use Rattle.db_state.specs.declared.writes.Row.TheVariants as row
-use Rattle.inode_ops.specs.Table.{IsOf, IsNumberedBy, AreIds, IsAnswer}
+use Rattle.db_state.specs.CallsTable.{IsOf, IsNumberedBy, AreIds, IsAnswer}
 
 -- a note after which the same paths are there gives no ids
 pub numbering_same : (numbering : Numbering) (space later : Namespace) (note : Note) → IsNamespace space → Rises later → move_in space later note ≡ None → ((q : Path) → is_some (id_at numbering q) ≡ exists space q)
@@ -51,7 +52,7 @@ numbering_same numbering space later note is rises still all same =
 
 module _ (tables : Tables) (view : View) (space : Namespace) (tree : IsTree tables.inodes view.next.0) (names : IsNamespace space) (stands : Stands tables.inodes tables.quotas [] space) (counts : Counts tables.inodes tables.quotas space)
     (at : Key) (old new : Inode) (there : map.get tables.inodes at ≡ Some old) (path : Path) (here : row_of tables.inodes path ≡ Some old) (below : path ≢ [])
-    (ids : new.id ≡ old.id) (kinds : new.kind ≡ old.kind) (quoted : new.has_quota ≡ old.has_quota) (flags : new.flag ≡ old.flag) (bytes : bytes_of (entry_of tables.quotas old) ≡ bytes_of (entry_of tables.quotas new)) where
+    (ids : new.id ≡ old.id) (kinds : new.kind ≡ old.kind) (fits : FitsKind new) (quoted : new.has_quota ≡ old.has_quota) (flags : new.flag ≡ old.flag) (bytes : bytes_of (entry_of tables.quotas old) ≡ bytes_of (entry_of tables.quotas new)) where
   -- the namespace then
   abbrev later : Namespace
   later = with_entry space path (entry_of tables.quotas new)
@@ -65,7 +66,7 @@ module _ (tables : Tables) (view : View) (space : Namespace) (tree : IsTree tabl
 
   rows_then : IsOf after view.next.0 later
   rows_then = record {
-    tree = tree_changed tables.inodes view.next.0 tree at old new there ids (not_root_key tables.inodes view.next.0 tree path at old below here there) kinds;
+    tree = tree_changed tables.inodes view.next.0 tree at old new there ids (not_root_key tables.inodes view.next.0 tree path at old below here there) kinds fits;
     stands = stands_changed tables.inodes view.next.0 tree at old new there ids path here tables.quotas [] space stands kinds quoted;
     counts = counts_changed_plain tables.inodes view.next.0 tree at old new there ids path here tables.quotas [] space stands names.rises counts (entry_of tables.quotas old) (entry_of tables.quotas new) found bytes;
   }

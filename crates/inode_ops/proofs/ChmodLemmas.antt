@@ -34,11 +34,11 @@ use Rattle.db_state.specs.declared.view.View.{View}
 use Rattle.db_state.specs.declared.writes.Row.{Row}
 use Rattle.db_state.specs.declared.writes.Row.TheVariants as row
 use Rattle.inode_ops.specs.ChmodSteps.{with_mode, IsModeSet}
-use Rattle.inode_ops.specs.Outcomes.{IsViewOf}
+use Rattle.inode_ops.specs.Outcomes.{IsViewOf, IsTableOf}
 use Rattle.inode_ops.specs.Steps.{IsRefused}
-use Rattle.inode_ops.specs.Table.{IsAnswer}
+use Rattle.db_state.specs.CallsTable.{IsAnswer}
 use Rattle.inode_ops.proofs.PlaceLemmas.{IsSet, last_is}
-use Rattle.inode_ops.proofs.ToldLemmas.{IsTableOf, told_result, set_at, low_locked, own_row}
+use Rattle.inode_ops.proofs.ToldLemmas.{told_result, set_at, low_locked, own_row}
 use Rattle.inode_ops.proofs.ChangedLemmas.{changed}
 use Rattle.inode_ops.proofs.OutcomeLemmas.{whole_entry, partial_entry, view_has}
 
@@ -88,7 +88,7 @@ module _ (tables : Tables) (bound : ℕ) (space : Namespace) (client : ClientNo)
   answer_mode bits some lock reply writes granted_is written_is =
       let same : set.walk.down.at.there.row ≡ set.walk.down.bottom.1 = set.walk.down.at.there.whole lock in
       changed tables view space set.tree set.names set.stands set.counts set.walk.down.bottom.0 set.walk.down.at.there.row (with_mode bits set.walk.down.at.there.row) set.walk.down.at.there.there place.path (own_row tables view.next.0 space locked view.quotas.items place set whole) (λ e. some (ap (λ (p : Path). length p) e))
-      refl refl refl refl (same_bytes set.walk.down.at.there.row.kind set.walk.down.at.there.row (quota_of tables.quotas set.walk.down.at.there.row.id) bits)
+      refl refl (set.tree.dirs set.walk.down.bottom.0 set.walk.down.at.there.row set.walk.down.at.there.there) refl refl (same_bytes set.walk.down.at.there.row.kind set.walk.down.at.there.row (quota_of tables.quotas set.walk.down.at.there.row.id) bits)
       client user (call.Chmod place.path bits) reply writes (λ was is. refl) refl
       (chmod_there space place.path bits (entry_of tables.quotas set.walk.down.at.there.row) some (whole_entry tables bound space client user view place locked set whole)
       ∙ ap (λ (e : Entry). granted (with_entry space place.path e)) (entry_mode set.walk.down.at.there.row.kind set.walk.down.at.there.row (quota_of tables.quotas set.walk.down.at.there.row.id) bits))

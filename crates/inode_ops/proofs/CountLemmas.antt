@@ -10,14 +10,14 @@ use Rattle.hops_base.specs.declared.ids.InodeId.{InodeId}
 use Rattle.hops_base.specs.declared.key.Key.{Key}
 use Rattle.hops_base.specs.declared.key.Key.TheVariants as key
 use Rattle.hops_base.specs.Key.{same_key, number_of}
-use Rattle.hops_base.specs.Tells.{keys_tell}
+use Rattle.hops_base.proofs.Tells.{keys_tell}
 use Rattle.inode_table.specs.declared.inode.Inode.{Inode}
 use Rattle.quota_table.specs.declared.quota.QuotaRow.{QuotaRow}
 use Rattle.db_state.specs.declared.writes.Row.{Row}
 use Rattle.db_state.specs.declared.writes.Row.TheVariants as row
-use Rattle.db_state.specs.PathLaws.{same_id}
+use Rattle.db_state.proofs.PathLaws.{same_id}
 use Rattle.db_state.specs.QuotaWrites.{quota_writes}
-use Rattle.db_state.specs.QuotaWriteLaws as quota_laws
+use Rattle.db_state.specs.QuotaWrites as quota_rows
 use Rattle.inode_ops.specs.declared.quotas.Change.{Change}
 use Rattle.inode_ops.specs.declared.quotas.Change.TheVariants.{More, Less}
 use Rattle.inode_ops.specs.QuotaSteps.{quota_in, has_id, is_written, CanCountIn, CanCount, quota_left, IsQuotaFound, AreQuotasFound, GoesOnCounted}
@@ -57,7 +57,7 @@ same_quota_key a b = elim (keys_tell (key.Quota a) (key.Quota b)) [
 ]
 
 -- a quota key is written where the quota row of its id is
-any_written : (change : QuotaRow → QuotaRow) (quotas : List (InodeId × QuotaRow)) (id : InodeId) → list_any (same_key (key.Quota id)) (keys_of (quota_writes change quotas)) ≡ quota_laws.is_written quotas id
+any_written : (change : QuotaRow → QuotaRow) (quotas : List (InodeId × QuotaRow)) (id : InodeId) → list_any (same_key (key.Quota id)) (keys_of (quota_writes change quotas)) ≡ quota_rows.is_written quotas id
 any_written change [] id = refl
 any_written change (q ∷ quotas) id = λ i. same_quota_key id q.0 i || any_written change quotas id i
 
@@ -65,13 +65,13 @@ writes_append : (change : QuotaRow → QuotaRow) (quotas more : List (InodeId ×
 writes_append change [] more = refl
 writes_append change (q ∷ quotas) more = ap (λ (ws : List (Key × Option Row)). (key.Quota q.0, Some (row.Quota (change q.1))) ∷ ws) (writes_append change quotas more)
 
-written_more : (quotas : List (InodeId × QuotaRow)) (q : InodeId × QuotaRow) (id : InodeId) → quota_laws.is_written (quotas ++ q ∷ []) id ≡ quota_laws.is_written quotas id || (q.0.0 == id.0 || false)
+written_more : (quotas : List (InodeId × QuotaRow)) (q : InodeId × QuotaRow) (id : InodeId) → quota_rows.is_written (quotas ++ q ∷ []) id ≡ quota_rows.is_written quotas id || (q.0.0 == id.0 || false)
 written_more quotas q id = list_any-append (λ (x : InodeId × QuotaRow). x.0.0 == id.0) quotas (q ∷ [])
 
 -- a quota row that is written was found
-pub written_found : (rows : List (Key × Inode)) (seen quotas : List (InodeId × QuotaRow)) (id : InodeId) → AllByRecursion (IsQuotaFound rows seen) quotas → quota_laws.is_written quotas id ≡ true → has_id rows id ≡ true
+pub written_found : (rows : List (Key × Inode)) (seen quotas : List (InodeId × QuotaRow)) (id : InodeId) → AllByRecursion (IsQuotaFound rows seen) quotas → quota_rows.is_written quotas id ≡ true → has_id rows id ≡ true
 written_found rows seen [] id each wrote = absurd (true≢false (sym wrote))
-written_found rows seen (q ∷ quotas) id each wrote = elim (or_cases (q.0.0 == id.0) (quota_laws.is_written quotas id) wrote) [
+written_found rows seen (q ∷ quotas) id each wrote = elim (or_cases (q.0.0 == id.0) (quota_rows.is_written quotas id) wrote) [
   | inl here ↦ ap (has_id rows) (sym (same_id q.0 id (eqb-true q.0.0 id.0 here))) ∙ each.0.0
   | inr further ↦ written_found rows seen quotas id each.1 further
 ]
@@ -106,14 +106,14 @@ own_id r id has = elim (or_cases (r.1.id.0 == id.0) false has) [
 
 -- a row that has no quota row, or whose quota row is written, adds none
 found_skipped : (rows : List (Key × Inode)) (r : Key × Inode) (seen : List (InodeId × QuotaRow)) (before : List (Key × Option Row)) (quotas : List (InodeId × QuotaRow)) → AreQuotasFound rows seen before quotas
-    → ((quota : QuotaRow) → quota_in seen r.1.id ≡ Some quota → list_any (same_key (key.Quota r.1.id)) (keys_of before) ≡ false → quota_laws.is_written quotas r.1.id ≡ true) → AreQuotasFound (rows ++ r ∷ []) seen before quotas
+    → ((quota : QuotaRow) → quota_in seen r.1.id ≡ Some quota → list_any (same_key (key.Quota r.1.id)) (keys_of before) ≡ false → quota_rows.is_written quotas r.1.id ≡ true) → AreQuotasFound (rows ++ r ∷ []) seen before quotas
 found_skipped rows r seen before quotas are wrote = record {
   each = each_found rows r seen quotas are.each;
   all = λ id quota has was new. elim (or_cases (has_id rows id) (r.1.id.0 == id.0 || false) (sym (has_more rows r id) ∙ has)) [
     | inl earlier ↦ are.all id quota earlier was new
     | inr here ↦
         let same : r.1.id ≡ id = own_id r id here in
-        subst (λ (i : InodeId). quota_laws.is_written quotas i ≡ true) same (wrote quota (ap (quota_in seen) same ∙ was) (ap (λ (i : InodeId). list_any (same_key (key.Quota i)) (keys_of before)) same ∙ new))
+        subst (λ (i : InodeId). quota_rows.is_written quotas i ≡ true) same (wrote quota (ap (quota_in seen) same ∙ was) (ap (λ (i : InodeId). list_any (same_key (key.Quota i)) (keys_of before)) same ∙ new))
   ];
 }
 
@@ -124,8 +124,8 @@ found_added rows r seen before quotas are quota is = record {
   each = each_pushed (rows ++ r ∷ []) seen quotas (r.1.id, quota) (each_found rows r seen quotas are.each)
       (has_more rows r r.1.id ∙ or_right (has_id rows r.1.id) (r.1.id.0 == r.1.id.0 || false) (or_left (r.1.id.0 == r.1.id.0) false (eq-eqb r.1.id.0 r.1.id.0 refl)), is);
   all = λ id q has was new. written_more quotas (r.1.id, quota) id ∙ (elim (or_cases (has_id rows id) (r.1.id.0 == id.0 || false) (sym (has_more rows r id) ∙ has)) [
-    | inl earlier ↦ or_left (quota_laws.is_written quotas id) (r.1.id.0 == id.0 || false) (are.all id q earlier was new)
-    | inr here ↦ or_right (quota_laws.is_written quotas id) (r.1.id.0 == id.0 || false) here
+    | inl earlier ↦ or_left (quota_rows.is_written quotas id) (r.1.id.0 == id.0 || false) (are.all id q earlier was new)
+    | inr here ↦ or_right (quota_rows.is_written quotas id) (r.1.id.0 == id.0 || false) here
   ]);
 }
 
@@ -148,7 +148,7 @@ module _ (rows : List (Key × Inode)) (seen : List (InodeId × QuotaRow)) (chang
   grown = take_more rows i r low ∙ ap (λ (x : Key × Inode). take i rows ++ x ∷ []) (sym item)
 
   -- a quota key that is written, and not by the writes before, is among those that were counted
-  among : (id : InodeId) → list_any (same_key (key.Quota id)) (keys_of before) ≡ false → is_written writes.items (key.Quota id) ≡ true → quota_laws.is_written counting.goes.0 id ≡ true
+  among : (id : InodeId) → list_any (same_key (key.Quota id)) (keys_of before) ≡ false → is_written writes.items (key.Quota id) ≡ true → quota_rows.is_written counting.goes.0 id ≡ true
   among id new wrote =
       sym (
       any_key (key.Quota id) writes.items

@@ -36,14 +36,14 @@ use Rattle.db_state.specs.declared.view.Place.{Place}
 use Rattle.db_state.specs.declared.view.View.{View}
 use Rattle.db_state.specs.declared.writes.Row.{Row}
 use Rattle.db_state.specs.declared.writes.Row.TheVariants as row
-use Rattle.db_state.specs.NewFile.{new_file_rows}
-use Rattle.db_state.specs.FileLaws.{paths_below-length}
+use Rattle.inode_ops.specs.NewFile.{new_file_rows}
+use Rattle.db_state.proofs.ChainLaws.{paths_below-length}
 use Rattle.db_state.specs.QuotaWrites.{quota_writes, raised, lowered}
 use Rattle.inode_ops.specs.CreateSteps.{overwritten, IsOverwritten, IsFiledUnless, CreateOf, AnswersCreate}
 use Rattle.inode_ops.specs.Outcomes.{IsViewOf}
 use Rattle.inode_ops.specs.QuotaSteps.{first_full, AreQuotasFound}
 use Rattle.inode_ops.specs.Steps.{missing_names}
-use Rattle.inode_ops.specs.Table.{IsAnswer, IsCallsTable}
+use Rattle.db_state.specs.CallsTable.{IsAnswer, IsCallsTable}
 use Rattle.inode_ops.proofs.CountLemmas.{HasNoQuotas, all_found}
 use Rattle.inode_ops.proofs.CreateRules.{create-dir, create-file, create-over, create-under_file, create-below}
 use Rattle.inode_ops.proofs.FileRowLemmas.{file_new, row_new}

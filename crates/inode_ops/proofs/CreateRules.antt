@@ -8,8 +8,8 @@ use Rattle.name_space.specs.declared.reply.Exception.TheVariants.{FileAlreadyExi
 use Rattle.name_space.specs.Namespace.{Namespace, Path, IsNamespace, entry_at, is_dir, is_file, with_entry, above, paths_below, missing}
 use Rattle.name_space.specs.Quota.{over_quota}
 use Rattle.name_space.specs.Plain.{refused, granted, unless, with_dirs, new_file, create}
-use Rattle.name_space.specs.MkdirsLaws.{nearest-below}
-use Rattle.name_space.specs.ChainLaws.{missing-below}
+use Rattle.name_space.proofs.MkdirsLaws.{nearest-below}
+use Rattle.name_space.proofs.ChainLaws.{missing-below}
 use Rattle.inode_ops.proofs.QuotaLemmas.{none_more}
 
 module _ (space : Namespace) (client : ClientNo) (user : List ℕ) (path : Path) where

@@ -21,8 +21,8 @@ use Rattle.name_space.specs.declared.reply.Reply.{Reply}
 use Rattle.name_space.specs.declared.reply.Reply.TheVariants.{Truth, Refused}
 use Rattle.name_space.specs.declared.reply.Exception.TheVariants.{PathIsNotEmptyDirectory}
 use Rattle.name_space.specs.Namespace.{Namespace, Path, IsNamespace, entry_at, exists, is_dir, is_within, children, without, bytes_of}
-use Rattle.name_space.specs.NamespaceLaws.{dir_above}
-use Rattle.name_space.specs.PathLaws.{same_path-self, is_within-rest}
+use Rattle.name_space.proofs.NamespaceLaws.{dir_above}
+use Rattle.name_space.proofs.PathLaws.{same_path-self, is_within-rest}
 use Rattle.name_space.specs.Plain.{told, refused, granted, when, unless, is_root, delete}
 use Rattle.name_space.specs.Calls.{plain, as_read}
 use Rattle.commit_log.specs.declared.note.Note.TheVariants.{Did}
@@ -37,20 +37,20 @@ use Rattle.db_state.specs.Consistent.{FlagsStay}
 use Rattle.db_state.specs.Current.{IsCurrentPlace, KnowsChild, is_locked}
 use Rattle.db_state.specs.Plan.{is_whole, plan, low, parent, quotas, writer_lease, where_so, path_keys, last_found}
 use Rattle.db_state.specs.Written.{written, next_after}
-use Rattle.db_state.specs.UnderLaws.{entry_at-children, none_next}
+use Rattle.db_state.proofs.UnderLaws.{entry_at-children, none_next}
 use Rattle.db_state.specs.QuotaWrites.{quota_writes, lowered}
-use Rattle.db_state.specs.QuotaWriteLaws.{next_written}
+use Rattle.db_state.proofs.QuotaWriteLaws.{next_written}
 use Rattle.db_state.specs.declared.outcome.Outcome.{Outcome}
 use Rattle.db_state.specs.declared.outcome.Outcome.TheVariants.{Answer, Subtree}
 use Rattle.db_state.specs.declared.view.Place.{Place}
 use Rattle.db_state.specs.declared.view.View.{View}
 use Rattle.db_state.specs.declared.writes.Row.{Row}
-use Rattle.db_state.specs.FileLaws.{written-append, next_after-append}
+use Rattle.db_state.proofs.WrittenLaws.{written-append, next_after-append}
 use Rattle.inode_ops.specs.Outcomes.{IsViewOf}
 use Rattle.inode_ops.specs.QuotaSteps.{AreQuotasFound, GoesOnCounted}
 use Rattle.inode_table.specs.Inode.{counted_bytes}
 use Rattle.inode_ops.specs.DeleteSteps.{removals, RemovesLast, DeleteOf, AnswersDelete}
-use Rattle.inode_ops.specs.Table.{IsBefore, IsOf, IsAnswer, AreIds, IsNumberedBy, IsCallsTable}
+use Rattle.db_state.specs.CallsTable.{IsBefore, IsOf, IsAnswer, AreIds, IsNumberedBy, IsCallsTable}
 use Rattle.inode_ops.proofs.QuotaLemmas.{LocksQuota, locks_each}
 use Rattle.inode_ops.proofs.OwnLemmas.{low_among}
 use Rattle.inode_ops.proofs.PlaceLemmas.{IsSet, last_is}

@@ -12,7 +12,7 @@ use Rattle.hops_base.specs.declared.ids.Mode.{Mode}
 use Rattle.hops_base.specs.declared.key.Key.{Key}
 use Rattle.hops_base.specs.declared.key.Key.TheVariants as key
 use Rattle.hops_base.specs.Key.{same_key, number_of}
-use Rattle.hops_base.specs.Tells.{keys_tell}
+use Rattle.hops_base.proofs.Tells.{keys_tell}
 use Rattle.name_space.specs.Namespace.{Namespace, Path, children}
 use Rattle.inode_table.specs.declared.inode.Inode.{Inode}
 use Rattle.quota_table.specs.declared.quota.QuotaRow.{QuotaRow}
@@ -21,10 +21,10 @@ use Rattle.db_state.specs.Spelled.{Inodes, spelled, row_of}
 use Rattle.db_state.specs.Stands.{quota_of}
 use Rattle.db_state.specs.Current.{Leads, Spells, SpellsPlace, IsThere, KnowsChild, is_locked}
 use Rattle.db_state.specs.Plan.{where_so, last_found, is_whole}
-use Rattle.db_state.specs.PathLaws.{same_id, injective}
-use Rattle.db_state.specs.UnderLaws.{children_counted}
+use Rattle.db_state.proofs.PathLaws.{same_id, injective}
+use Rattle.db_state.proofs.UnderLaws.{children_counted}
 use Rattle.db_state.specs.Recounted.{is_along}
-use Rattle.db_state.specs.QuotaWriteLaws.{is_written, AreOf}
+use Rattle.db_state.specs.QuotaWrites.{is_written, AreOf}
 use Rattle.db_state.specs.Written.{written}
 use Rattle.db_state.specs.declared.view.Place.{Place}
 use Rattle.db_state.specs.declared.writes.Row.{Row}

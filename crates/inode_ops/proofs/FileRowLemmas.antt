@@ -6,13 +6,13 @@ use Rattle.std.specs.Map.{keys_of}
 use Rattle.hops_base.specs.declared.key.Key.{Key}
 use Rattle.hops_base.specs.declared.key.Key.TheVariants as key
 use Rattle.hops_base.specs.Key.{same_key}
-use Rattle.hops_base.specs.Tells.{keys_tell}
+use Rattle.hops_base.proofs.Tells.{keys_tell}
 use Rattle.hops_base.specs.declared.ids.ClientNo.{ClientNo}
 use Rattle.hops_base.specs.declared.ids.InodeId.{InodeId}
 use Rattle.inode_table.specs.declared.inode.Inode.{Inode}
 use Rattle.db_state.specs.declared.view.Place.{Place}
-use Rattle.db_state.specs.PathLaws.{same_id}
-use Rattle.db_state.specs.FileLaws.{new_file_rows-last}
+use Rattle.db_state.proofs.PathLaws.{same_id}
+use Rattle.inode_ops.proofs.FileLaws.{new_file_rows-last}
 use Rattle.db_state.specs.declared.writes.Row.TheVariants as row
 use Rattle.inode_ops.specs.Steps.{IsRefused}
 use Rattle.inode_ops.specs.CreateSteps.{IsFiledUnless}
@@ -22,7 +22,7 @@ use Rattle.db_state.specs.declared.view.View.{View}
 use Rattle.db_state.specs.declared.outcome.Outcome.{Outcome}
 use Rattle.db_state.specs.declared.writes.Row.{Row}
 use Rattle.db_state.specs.NewDirs.{new_dirs}
-use Rattle.db_state.specs.NewFile.{new_file, new_file_rows, last_dir}
+use Rattle.inode_ops.specs.NewFile.{new_file, new_file_rows, last_dir}
 use Rattle.inode_ops.proofs.CountLemmas.{HasNoQuotas}
 use Rattle.inode_ops.proofs.MadeLemmas.{is_above, fresh_key}
 

@@ -2,7 +2,7 @@
 use Rattle.std.proofs.Common.{◌≡◌, ℕ, ◌+◌, ◌≤◌, Bool, true, false, cond, not, ◌&&◌, ◌||◌, List, [], ◌∷◌, ◌++◌, length, reverse, Option, Some, None, is_some, arith, refl, sym, ap, subst, ◌∙◌, inl, inr, length-append}
 use Rattle.std.specs.List.{AllByRecursion, sum_by}
 use Rattle.hops_base.specs.Path.{same_path}
-use Rattle.hops_base.specs.Tells.{paths_tell}
+use Rattle.hops_base.proofs.Tells.{paths_tell}
 use Rattle.hops_base.specs.declared.ids.ClientNo.{ClientNo}
 use Rattle.hops_base.specs.declared.ids.InodeId.{InodeId}
 use Rattle.hops_base.specs.declared.ids.Mode.{Mode}
@@ -14,9 +14,9 @@ use Rattle.name_space.specs.declared.reply.Reply.{Reply}
 use Rattle.name_space.specs.declared.reply.Reply.TheVariants.{Truth, Refused}
 use Rattle.name_space.specs.Namespace as spaces
 use Rattle.name_space.specs.Namespace.{Namespace, Path, entry_at, exists, is_within, with_entry, paths_below, missing}
-use Rattle.name_space.specs.NamespaceLaws.{entry_at-with_entry, entry_at-with_dirs, Rises-with_dirs, Rises-with_entry}
-use Rattle.name_space.specs.PathLaws.{is_within-self}
-use Rattle.name_space.specs.PrefixLaws.{among-missing}
+use Rattle.name_space.proofs.NamespaceLaws.{entry_at-with_entry, entry_at-with_dirs, Rises-with_dirs, Rises-with_entry}
+use Rattle.name_space.proofs.PathLaws.{is_within-self}
+use Rattle.name_space.proofs.PrefixLaws.{among-missing}
 use Rattle.name_space.specs.Cut.{is_among}
 use Rattle.name_space.specs.Plain as plain_words
 use Rattle.name_space.specs.Plain.{Answered, with_dirs, granted}
@@ -24,7 +24,7 @@ use Rattle.name_space.specs.Calls.{plain, as_read}
 use Rattle.commit_log.specs.declared.note.Note.{Note}
 use Rattle.commit_log.specs.declared.note.Note.TheVariants.{Did}
 use Rattle.commit_log.specs.Ids.{Numbering, with_new, move_of, move_in, numbering_after}
-use Rattle.commit_log.specs.NumberLaws.{numbering-missing}
+use Rattle.commit_log.proofs.NumberLaws.{numbering-missing}
 use Rattle.inode_table.specs.declared.inode.Kind.TheVariants.{Dir}
 use Rattle.quota_table.specs.declared.quota.QuotaRow.{QuotaRow}
 use Rattle.db_state.specs.State.{Tables}
@@ -37,15 +37,18 @@ use Rattle.db_state.specs.declared.view.Place.{Place}
 use Rattle.db_state.specs.declared.view.View.{View}
 use Rattle.db_state.specs.declared.writes.Row.{Row}
 use Rattle.db_state.specs.NewDirs.{FirstMissing}
-use Rattle.db_state.specs.NewFile.{new_file_rows}
-use Rattle.db_state.specs.NumberLaws.{next_with_new}
-use Rattle.db_state.specs.FileLaws.{written-append, next_after-append, paths_below-length, quotas_filed, next_filed, flags_filed, tree_filed, given_filed, stands_filed}
-use Rattle.db_state.specs.GrowthLaws.{names_more, counts_filed}
-use Rattle.db_state.specs.CountLaws.{stands_recounted}
+use Rattle.inode_ops.specs.NewFile.{new_file_rows}
+use Rattle.db_state.proofs.NumberLaws.{next_with_new}
+use Rattle.db_state.proofs.WrittenLaws.{written-append, next_after-append}
+use Rattle.db_state.proofs.ChainLaws.{paths_below-length}
+use Rattle.inode_ops.proofs.FileLaws.{quotas_filed, next_filed, flags_filed, tree_filed, given_filed, stands_filed}
+use Rattle.db_state.specs.Recounted.{names_more}
+use Rattle.inode_ops.proofs.FileCountLaws.{counts_filed}
+use Rattle.db_state.proofs.CountLaws.{stands_recounted}
 use Rattle.db_state.specs.Recounted.{IsRecounted}
 use Rattle.db_state.specs.QuotaWrites.{quota_writes, raised}
-use Rattle.db_state.specs.QuotaWriteLaws.{inodes_written, next_written}
-use Rattle.inode_ops.specs.Table.{IsOf, IsNumberedBy, AreIds, IsAnswer}
+use Rattle.db_state.proofs.QuotaWriteLaws.{inodes_written, next_written}
+use Rattle.db_state.specs.CallsTable.{IsOf, IsNumberedBy, AreIds, IsAnswer}
 use Rattle.inode_ops.specs.QuotaSteps.{AreQuotasFound}
 use Rattle.inode_ops.proofs.QuotaLemmas.{LocksQuota}
 use Rattle.inode_ops.proofs.PlaceLemmas.{IsSet, path_is as path_of_place, missing_is, missing_row}

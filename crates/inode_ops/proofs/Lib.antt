@@ -6,6 +6,8 @@ pub mod CreateLemmas
 pub mod CreateRules
 pub mod DeleteLemmas
 pub mod DeletePlaceLemmas
+pub mod FileCountLaws
+pub mod FileLaws
 pub mod FileRowLemmas
 pub mod FiledLemmas
 pub mod ListLemmas
@@ -20,4 +22,5 @@ pub mod QuotaLemmas
 pub mod RemovedLemmas
 pub mod TableLemmas
 pub mod ToldLemmas
+pub mod ViewLaws
 pub mod WalkLemmas

@@ -25,15 +25,15 @@ use Rattle.db_state.specs.State.{Tables}
 use Rattle.db_state.specs.Spelled.{Inodes}
 use Rattle.db_state.specs.Stands.{quota_of, entry_of, entry_of_kind}
 use Rattle.db_state.specs.Current.{is_locked, listed_row, listed_under, children_told}
-use Rattle.db_state.specs.ListLaws.{told_as_row, children_told_as_rows, last_name_is}
+use Rattle.db_state.proofs.ListLaws.{told_as_row, children_told_as_rows, last_name_is}
 use Rattle.db_state.specs.Plan.{is_whole, deepest, plan}
 use Rattle.db_state.specs.declared.outcome.Outcome.{Outcome}
 use Rattle.db_state.specs.declared.view.Place.{Place}
 use Rattle.db_state.specs.declared.view.View.{View}
-use Rattle.inode_ops.specs.Outcomes.{IsViewOf}
+use Rattle.inode_ops.specs.Outcomes.{IsViewOf, IsTableOf}
 use Rattle.inode_ops.specs.Steps.{IsTold, IsRefused}
 use Rattle.inode_ops.proofs.PlaceLemmas.{IsSet, deepest_is, last_is}
-use Rattle.inode_ops.proofs.ToldLemmas.{IsTableOf, told_result, set_at, low_locked, own_row}
+use Rattle.inode_ops.proofs.ToldLemmas.{told_result, set_at, low_locked, own_row}
 use Rattle.inode_ops.proofs.OutcomeLemmas.{whole_entry, partial_entry, view_has}
 
 -- ---- the rule

@@ -9,7 +9,8 @@ use Rattle.std.specs.Cmp.{first_so, second_so}
 use Rattle.hops_base.specs.Roomy.{Roomy}
 use Rattle.hops_base.specs.declared.key.Key.{Key}
 use Rattle.hops_base.specs.declared.key.Key.TheVariants as key
-use Rattle.hops_base.specs.Key.{same_key, number_of, key_cmp_exact}
+use Rattle.hops_base.specs.Key.{same_key, number_of}
+use Rattle.hops_base.proofs.Tells.{key_cmp_exact}
 use Rattle.db_state.specs.declared.writes.Row.{Row}
 use Rattle.db_state.specs.declared.writes.Row.TheVariants as row
 use Rattle.db_state.specs.State.{new_dir}

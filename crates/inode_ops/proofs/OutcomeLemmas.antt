@@ -20,9 +20,9 @@ use Rattle.name_space.specs.declared.reply.Reply.TheVariants.{Truth, Status, Ref
 use Rattle.name_space.specs.declared.reply.Exception.{Exception}
 use Rattle.name_space.specs.declared.reply.Exception.TheVariants.{FileNotFound, FileAlreadyExists, ParentNotDirectory}
 use Rattle.name_space.specs.Namespace.{Namespace, Path, entry_at, is_file, above, paths_below, missing}
-use Rattle.name_space.specs.NamespaceLaws.{missing_within}
-use Rattle.name_space.specs.PathLaws.{is_within-append}
-use Rattle.name_space.specs.MkdirsLaws.{mkdirs-file, mkdirs-under_file, mkdirs-below}
+use Rattle.name_space.proofs.NamespaceLaws.{missing_within}
+use Rattle.name_space.proofs.PathLaws.{is_within-append}
+use Rattle.name_space.proofs.MkdirsLaws.{mkdirs-file, mkdirs-under_file, mkdirs-below}
 use Rattle.name_space.specs.Plain.{told, refused, granted, unless, with_dirs, mkdirs, stat_at}
 use Rattle.name_space.specs.Plain as plain_words
 use Rattle.name_space.specs.Quota.{over_quota}
@@ -39,13 +39,13 @@ use Rattle.db_state.specs.declared.outcome.Outcome.TheVariants.{Answer, Subtree}
 use Rattle.db_state.specs.declared.view.Place.{Place}
 use Rattle.db_state.specs.declared.view.View.{View}
 use Rattle.db_state.specs.declared.writes.Row.{Row}
-use Rattle.db_state.specs.FileLaws.{paths_below-length}
+use Rattle.db_state.proofs.ChainLaws.{paths_below-length}
 use Rattle.db_state.specs.NewDirs.{new_dirs}
 use Rattle.db_state.specs.QuotaWrites.{quota_writes, raised}
-use Rattle.inode_ops.specs.Outcomes.{path_of, Suits, IsViewOf, suits_spell}
+use Rattle.inode_ops.specs.Outcomes.{path_of, Suits, IsViewOf}
 use Rattle.inode_ops.specs.QuotaSteps.{first_full, AreQuotasFound}
 use Rattle.inode_ops.specs.Steps.{status_of, status_of_kind, missing_names, IsMadeUnless, MkdirsOf, AnswersMkdirs, StatOf, AnswersStat}
-use Rattle.inode_ops.specs.Table.{IsBefore, IsAnswer, IsCallsTable}
+use Rattle.db_state.specs.CallsTable.{IsBefore, IsAnswer, IsCallsTable}
 use Rattle.inode_ops.proofs.CountLemmas.{all_found}
 use Rattle.inode_ops.proofs.MissingLemmas.{dirs_new}
 use Rattle.inode_ops.proofs.QuotaLemmas.{LocksQuota, locks_each, none_more}
@@ -259,7 +259,7 @@ stat_outcome view client user place one spells (Subtree of) answers =
 pub view_has : (view : View) (asked : Call) (place : Place) (path : List (List ℕ)) → IsViewOf view asked → slice_get view.places.items 0 ≡ Some place → path_of asked ≡ Some path → (view.places.items ≡ place ∷ []) × (place.path ≡ path) × SpellsPlace place
 view_has view asked place path is first named =
     let of = subst (λ (o : Option Place). IfSome o (λ place. (path_of asked ≡ Some place.path) × Suits asked place view.quotas.items view.next.0)) first is.place in
-    (one_item view.places.items place is.only first, (let same : Some place.path ≡ Some path = sym of.0 ∙ named in cc), suits_spell asked place view.quotas.items view.next.0 of.1)
+    (one_item view.places.items place is.only first, (let same : Some place.path ≡ Some path = sym of.0 ∙ named in cc), of.1.spells)
 
 pub mkdirs_result : (view : View) (client : ClientNo) (user : List ℕ) (asked : Call) (place : Place) (path : List (List ℕ)) (seen : List (InodeId × QuotaRow)) (r : Result Outcome NoMemory) → IsViewOf view asked → slice_get view.places.items 0 ≡ Some place → asked ≡ call.Mkdirs path → seen ≡ view.quotas.items
     → IfOk r (AnswersMkdirs place seen view.next.0 user) → IfOk r (IsCallsTable view client user asked)

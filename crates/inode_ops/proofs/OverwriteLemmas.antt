@@ -3,7 +3,7 @@ use Rattle.std.proofs.Common.{◌≡◌, ◌≢◌, ℕ, ◌+◌, ◌<◌, ◌�
 use Rattle.std.proofs.lemmas.List.{reverse-reverse}
 use Rattle.std.specs.FinMap as map
 use Rattle.std.specs.List.{AllByRecursion}
-use Rattle.hops_base.specs.Tells.{paths_tell}
+use Rattle.hops_base.proofs.Tells.{paths_tell}
 use Rattle.hops_base.specs.declared.ids.ClientNo.{ClientNo}
 use Rattle.hops_base.specs.declared.ids.InodeId.{InodeId}
 use Rattle.hops_base.specs.declared.ids.Mode.{Mode}
@@ -14,15 +14,15 @@ use Rattle.name_space.specs.declared.entry.Entry.TheVariants as entry
 use Rattle.name_space.specs.declared.reply.Reply.{Reply}
 use Rattle.name_space.specs.declared.reply.Reply.TheVariants.{Truth, Refused}
 use Rattle.name_space.specs.Namespace.{Namespace, Path, entry_at, exists, is_within, with_entry, missing, used_bytes}
-use Rattle.name_space.specs.NamespaceLaws.{dir-exists, entry_at-with_entry, Rises-with_entry}
-use Rattle.name_space.specs.UsageLaws.{used_bytes-with_old}
+use Rattle.name_space.proofs.NamespaceLaws.{dir-exists, entry_at-with_entry, Rises-with_entry}
+use Rattle.name_space.proofs.UsedLaws.{used_bytes-with_old}
 use Rattle.name_space.specs.Plain.{Answered, new_file, granted}
 use Rattle.name_space.specs.Call.{changes}
 use Rattle.name_space.specs.Calls.{plain, as_read}
 use Rattle.commit_log.specs.declared.note.Note.{Note}
 use Rattle.commit_log.specs.declared.note.Note.TheVariants.{Did}
 use Rattle.commit_log.specs.Ids.{Numbering, with_new, move_of, move_in, numbering_after}
-use Rattle.commit_log.specs.NumberLaws.{numbering-missing}
+use Rattle.commit_log.proofs.NumberLaws.{numbering-missing}
 use Rattle.inode_table.specs.declared.inode.Inode.{Inode}
 use Rattle.inode_table.specs.declared.inode.Kind.{Kind}
 use Rattle.inode_table.specs.declared.inode.Kind.TheVariants.{Dir, File}
@@ -38,12 +38,13 @@ use Rattle.db_state.specs.declared.view.View.{View}
 use Rattle.db_state.specs.declared.writes.Row.{Row}
 use Rattle.db_state.specs.declared.writes.Row.TheVariants as row
 use Rattle.db_state.specs.Plan.{is_whole}
-use Rattle.db_state.specs.ChangeLaws.{stands_changed, tree_changed, given_changed, flags_changed}
-use Rattle.db_state.specs.CountLaws.{in_place, counts_changed, stands_recounted, is_along-within}
+use Rattle.db_state.proofs.ChangeLaws.{stands_changed, tree_changed, given_changed, flags_changed}
+use Rattle.db_state.specs.Recounted.{in_place}
+use Rattle.db_state.proofs.CountLaws.{counts_changed, stands_recounted, is_along-within}
 use Rattle.db_state.specs.QuotaWrites.{quota_writes, lowered}
-use Rattle.db_state.specs.QuotaWriteLaws.{inodes_written, next_written, becomes_lowered}
+use Rattle.db_state.proofs.QuotaWriteLaws.{inodes_written, next_written, becomes_lowered}
 use Rattle.db_state.specs.Recounted.{is_along, IsRecounted}
-use Rattle.inode_ops.specs.Table.{IsOf, IsNumberedBy, AreIds, IsAnswer}
+use Rattle.db_state.specs.CallsTable.{IsOf, IsNumberedBy, AreIds, IsAnswer}
 use Rattle.inode_ops.specs.CreateSteps.{overwritten}
 use Rattle.inode_ops.specs.QuotaSteps.{AreQuotasFound}
 use Rattle.inode_ops.proofs.QuotaLemmas.{LocksQuota}
@@ -140,7 +141,7 @@ module _ (tables : Tables) (space : Namespace) (locked : List (Key × Mode)) (se
   -- the rows stand for the namespace with the new file
   rows_of : IsOf after view.next.0 later
   rows_of = record {
-    tree = subst (λ (i : Inodes). IsTree i view.next.0) (sym inodes_are) (tree_changed tables.inodes view.next.0 set.tree set.walk.down.bottom.0 old new set.walk.down.at.there.there refl below refl);
+    tree = subst (λ (i : Inodes). IsTree i view.next.0) (sym inodes_are) (tree_changed tables.inodes view.next.0 set.tree set.walk.down.bottom.0 old new set.walk.down.at.there.there refl below refl (λ dir. absurd (let bad : File ≡ Dir = sym file ∙ dir in cc)));
     stands = subst (λ (i : Inodes). Stands i after.quotas [] later) (sym inodes_are) (stands_recounted tables.inodes place.path (in_place was now) tables.quotas after.quotas recounted inodes [] later stands_then);
     counts = subst (λ (i : Inodes). Counts i after.quotas later) (sym inodes_are)
         (counts_changed tables.inodes view.next.0 set.tree set.walk.down.bottom.0 old new set.walk.down.at.there.there refl place.path here tables.quotas after.quotas space set.names.rises set.counts was now stood recounted);

@@ -10,7 +10,7 @@ use Rattle.hops_base.specs.declared.ids.Mode.TheVariants.{Exclusive}
 use Rattle.hops_base.specs.declared.key.Key.{Key}
 use Rattle.hops_base.specs.declared.key.Key.TheVariants as key
 use Rattle.hops_base.specs.Key.{same_key}
-use Rattle.hops_base.specs.Tells.{keys_tell}
+use Rattle.hops_base.proofs.Tells.{keys_tell}
 use Rattle.inode_table.specs.declared.inode.Inode.{Inode}
 use Rattle.inode_table.specs.declared.inode.Kind.{Kind}
 use Rattle.inode_table.specs.declared.inode.Kind.TheVariants.{Dir}
@@ -19,7 +19,7 @@ use Rattle.db_state.specs.Stands.{Quotas, quota_of}
 use Rattle.db_state.specs.Current.{Leads, SeesQuotas, stops_at, is_locked}
 use Rattle.db_state.specs.Locked.{is_own, MayWrite}
 use Rattle.db_state.specs.NewDirs.{new_dirs}
-use Rattle.db_state.specs.NewFile.{new_file_rows}
+use Rattle.inode_ops.specs.NewFile.{new_file_rows}
 use Rattle.db_state.specs.Plan.{in_mode, next, last_found, low}
 use Rattle.db_state.specs.QuotaWrites.{quota_writes}
 use Rattle.db_state.specs.declared.view.Place.{Place}

@@ -27,7 +27,7 @@ use Rattle.db_state.specs.Stands.{Quotas}
 use Rattle.db_state.specs.Current.{Leads, IsCurrent, IsCurrentPlace, SeesQuotas}
 use Rattle.db_state.specs.Locked.{is_own, is_in_new, MayWrite, WritesOwn}
 use Rattle.db_state.specs.NewDirs.{new_dirs}
-use Rattle.db_state.specs.NewFile.{new_file_rows}
+use Rattle.inode_ops.specs.NewFile.{new_file_rows}
 use Rattle.db_state.specs.Plan.{plan, in_mode, where_so, is_whole, low, next, parent, quotas, lease, writer_lease, last_found}
 use Rattle.db_state.specs.QuotaWrites.{quota_writes}
 use Rattle.db_state.specs.declared.outcome.Outcome.{Outcome}

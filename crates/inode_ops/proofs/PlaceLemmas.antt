@@ -8,7 +8,7 @@ use Rattle.hops_base.specs.declared.ids.Mode.{Mode}
 use Rattle.hops_base.specs.declared.key.Key.{Key}
 use Rattle.name_space.specs.Namespace.{Namespace, Path, IsNamespace, entry_at, above, paths_below, missing}
 use Rattle.name_space.specs.Quota.{first_some, over_quota}
-use Rattle.name_space.specs.ChainLaws.{missing-below}
+use Rattle.name_space.proofs.ChainLaws.{missing-below}
 use Rattle.inode_table.specs.declared.inode.Inode.{Inode}
 use Rattle.inode_table.specs.declared.inode.Kind.TheVariants.{Dir}
 use Rattle.quota_table.specs.declared.quota.QuotaRow.{QuotaRow}
@@ -170,7 +170,7 @@ module _ (tables : Tables) (next : ℕ) (space : Namespace) (locked : List (Key 
       go : (names : List (List ℕ)) → set.walk.down.rest ≡ names → IfSome (slice_get names 0) (λ (name : List ℕ). entry_at space (reverse set.walk.down.dir ++ name ∷ []) ≡ None)
       go [] is = tt
       go (name ∷ names) is =
-          ap (entry_at space) (sym (Rattle.db_state.specs.ChainLaws.reverse-push name set.walk.down.dir)) ∙ entry_at_row (name ∷ set.walk.down.dir) ∙ ap (option_map (entry_of tables.quotas)) (missing_spelt name names is)
+          ap (entry_at space) (sym (Rattle.db_state.proofs.ChainLaws.reverse-push name set.walk.down.dir)) ∙ entry_at_row (name ∷ set.walk.down.dir) ∙ ap (option_map (entry_of tables.quotas)) (missing_spelt name names is)
 
   -- the missing prefixes are those of the missing names
   pub missing_is : missing space place.path ≡ paths_below (reverse set.walk.down.dir) set.walk.down.rest

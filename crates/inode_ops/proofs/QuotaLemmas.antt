@@ -14,8 +14,8 @@ use Rattle.hops_base.specs.Key.{same_key}
 use Rattle.name_space.specs.declared.entry.Entry.{Entry}
 use Rattle.name_space.specs.declared.reply.Exception.{Exception}
 use Rattle.name_space.specs.Namespace.{Namespace, Path, IsNamespace, entry_at, above}
-use Rattle.name_space.specs.NamespaceLaws.{missing_within}
-use Rattle.name_space.specs.PathLaws.{is_within-append}
+use Rattle.name_space.proofs.NamespaceLaws.{missing_within}
+use Rattle.name_space.proofs.PathLaws.{is_within-append}
 use Rattle.name_space.specs.Quota.{first_some, refused_by, over_quota}
 use Rattle.inode_table.specs.declared.inode.Inode.{Inode}
 use Rattle.inode_table.specs.declared.inode.Kind.{Kind}

@@ -8,16 +8,17 @@ use Rattle.std.specs.List.{filter}
 use Rattle.hops_base.specs.declared.ids.InodeId.{InodeId}
 use Rattle.hops_base.specs.declared.key.Key.{Key}
 use Rattle.hops_base.specs.declared.key.Key.TheVariants as key
-use Rattle.hops_base.specs.Key.{key_cmp, key_cmp_total, key_cmp_exact, same_key}
+use Rattle.hops_base.specs.Key.{key_cmp, key_cmp_total, same_key}
+use Rattle.hops_base.proofs.Tells.{key_cmp_exact}
 use Rattle.hops_base.specs.Path.{path_cmp, path_cmp_total, same_path}
-use Rattle.hops_base.specs.Tells.{keys_tell, paths_tell}
+use Rattle.hops_base.proofs.Tells.{keys_tell, paths_tell}
 use Rattle.name_space.specs.declared.entry.Entry.{Entry}
 use Rattle.name_space.specs.Cut.{is_among}
 use Rattle.name_space.specs.Namespace.{Namespace, Path, IsNamespace, entry_at, exists, is_within, without, bytes_of}
-use Rattle.name_space.specs.NamespaceLaws.{Rises-without}
-use Rattle.name_space.specs.PrefixLaws.{among-filter}
-use Rattle.name_space.specs.RisingLaws.{same_rising, is_rising-keys}
-use Rattle.name_space.specs.UsageLaws.{used_names-without, used_bytes-without}
+use Rattle.name_space.proofs.NamespaceLaws.{Rises-without}
+use Rattle.name_space.proofs.PrefixLaws.{among-filter}
+use Rattle.name_space.proofs.RisingLaws.{same_rising, is_rising-keys}
+use Rattle.name_space.proofs.UsedLaws.{used_names-without, used_bytes-without}
 use Rattle.commit_log.specs.declared.note.Note.{Note}
 use Rattle.commit_log.specs.Ids.{Numbering, id_at, with_new, move_in, moved_ids, unnumbered, numbering_after}
 use Rattle.inode_table.specs.declared.inode.Inode.{Inode}
@@ -28,13 +29,15 @@ use Rattle.db_state.specs.Stands.{Quotas, quota_of, entry_of, Stands}
 use Rattle.db_state.specs.Counts.{Counts}
 use Rattle.db_state.specs.Consistent.{FlagsStay}
 use Rattle.db_state.specs.Written.{written}
-use Rattle.db_state.specs.RemoveLaws.{not_root_key, tree_removed, flags_removed, given_removed, stands_removed}
-use Rattle.db_state.specs.UnderLaws.{none_under_leaf, entry_at-without_leaf, used_names-leaf, used_bytes-leaf}
+use Rattle.db_state.proofs.RemoveLaws.{not_root_key, tree_removed, flags_removed, given_removed, stands_removed}
+use Rattle.db_state.proofs.UnderLaws.{none_under_leaf, entry_at-without_leaf, used_names-leaf, used_bytes-leaf}
 use Rattle.db_state.specs.Recounted.{is_along, IsRecounted}
-use Rattle.db_state.specs.CountLaws.{is_along-within, stands_recounted, one_gone, counts_removed}
+use Rattle.db_state.proofs.CountLaws.{is_along-within, stands_recounted, counts_removed}
+use Rattle.db_state.specs.Recounted.{one_gone}
 use Rattle.db_state.specs.QuotaWrites.{quota_writes, lowered}
-use Rattle.db_state.specs.QuotaWriteLaws.{is_written, AreOf, inodes_written, recounted_written, becomes_lowered}
-use Rattle.inode_ops.specs.Table.{IsOf, IsNumberedBy}
+use Rattle.db_state.specs.QuotaWrites.{is_written, AreOf}
+use Rattle.db_state.proofs.QuotaWriteLaws.{inodes_written, recounted_written, becomes_lowered}
+use Rattle.db_state.specs.CallsTable.{IsOf, IsNumberedBy}
 use Rattle.inode_ops.specs.DeleteSteps.{removals}
 
 -- ---- the writes that remove

@@ -16,15 +16,15 @@ use Rattle.name_space.specs.declared.reply.Reply.{Reply}
 use Rattle.name_space.specs.declared.reply.Reply.TheVariants.{Truth, Refused}
 use Rattle.name_space.specs.Namespace as spaces
 use Rattle.name_space.specs.Namespace.{Namespace, Path, IsNamespace, entry_at, exists, is_within, paths_below, missing}
-use Rattle.name_space.specs.NamespaceLaws.{dir-exists, entry_at-with_dirs, Rises-with_dirs}
-use Rattle.name_space.specs.PrefixLaws.{among-missing}
+use Rattle.name_space.proofs.NamespaceLaws.{dir-exists, entry_at-with_dirs, Rises-with_dirs}
+use Rattle.name_space.proofs.PrefixLaws.{among-missing}
 use Rattle.name_space.specs.Cut.{is_among}
 use Rattle.name_space.specs.Plain.{Answered, with_dirs, told, granted}
 use Rattle.name_space.specs.Calls.{plain, as_read}
 use Rattle.commit_log.specs.declared.note.Note.{Note}
 use Rattle.commit_log.specs.declared.note.Note.TheVariants.{Did}
 use Rattle.commit_log.specs.Ids.{Numbering, id_at, with_new, move_of, move_in, numbering_after}
-use Rattle.commit_log.specs.NumberLaws.{numbering-missing}
+use Rattle.commit_log.proofs.NumberLaws.{numbering-missing}
 use Rattle.inode_table.specs.declared.inode.Kind.TheVariants.{Dir}
 use Rattle.quota_table.specs.declared.quota.QuotaRow.{QuotaRow}
 use Rattle.db_state.specs.State.{Tables}
@@ -38,15 +38,16 @@ use Rattle.db_state.specs.declared.view.Place.{Place}
 use Rattle.db_state.specs.declared.view.View.{View}
 use Rattle.db_state.specs.declared.writes.Row.{Row}
 use Rattle.db_state.specs.NewDirs.{new_dirs, FirstMissing, Unremoved}
-use Rattle.db_state.specs.ChainLaws.{quotas_chained, tree_chained, stands_chained}
-use Rattle.db_state.specs.NumberLaws.{given_chained, next_with_new}
-use Rattle.db_state.specs.FileLaws.{written-append, next_after-append, next_chained, paths_below-length, flags_chained}
-use Rattle.db_state.specs.GrowthLaws.{names_more, counts_chained}
-use Rattle.db_state.specs.CountLaws.{stands_recounted}
+use Rattle.db_state.proofs.ChainLaws.{quotas_chained, tree_chained, stands_chained, next_chained, paths_below-length, flags_chained}
+use Rattle.db_state.proofs.NumberLaws.{given_chained, next_with_new}
+use Rattle.db_state.proofs.WrittenLaws.{written-append, next_after-append}
+use Rattle.db_state.specs.Recounted.{names_more}
+use Rattle.db_state.proofs.GrowthLaws.{counts_chained}
+use Rattle.db_state.proofs.CountLaws.{stands_recounted}
 use Rattle.db_state.specs.Recounted.{IsRecounted}
 use Rattle.db_state.specs.QuotaWrites.{quota_writes, raised}
-use Rattle.db_state.specs.QuotaWriteLaws.{inodes_written, next_written}
-use Rattle.inode_ops.specs.Table.{IsOf, IsNumberedBy, AreIds, IsAnswer}
+use Rattle.db_state.proofs.QuotaWriteLaws.{inodes_written, next_written}
+use Rattle.db_state.specs.CallsTable.{IsOf, IsNumberedBy, AreIds, IsAnswer}
 use Rattle.inode_ops.specs.QuotaSteps.{AreQuotasFound}
 use Rattle.inode_ops.proofs.QuotaLemmas.{LocksQuota}
 use Rattle.inode_ops.proofs.PlaceLemmas.{IsSet, path_is, missing_is, missing_row}
@@ -58,6 +59,7 @@ tree_at inodes bound next tree free = record {
   keys = tree.keys;
   apart = tree.apart;
   range = λ at row e. ((tree.range at row e).0, free at row e);
+  dirs = tree.dirs;
   root = tree.root;
   top = tree.top;
   parents = tree.parents;

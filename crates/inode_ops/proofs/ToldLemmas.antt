@@ -23,17 +23,13 @@ use Rattle.db_state.specs.declared.outcome.Outcome.{Outcome}
 use Rattle.db_state.specs.declared.outcome.Outcome.TheVariants.{Answer, Subtree}
 use Rattle.db_state.specs.declared.view.Place.{Place}
 use Rattle.db_state.specs.declared.view.View.{View}
-use Rattle.inode_ops.specs.Outcomes.{IsViewOf, path_of}
+use Rattle.inode_ops.specs.Outcomes.{IsViewOf, IsTableOf, path_of}
 use Rattle.inode_ops.specs.Steps.{IsTold}
-use Rattle.inode_ops.specs.Table.{IsBefore, IsCallsTable}
+use Rattle.db_state.specs.CallsTable.{IsBefore}
 use Rattle.inode_ops.proofs.PlaceLemmas.{IsSet, path_is, whole_rest}
 use Rattle.inode_ops.proofs.TableLemmas.{tree_at, unchanged}
 use Rattle.inode_ops.proofs.OwnLemmas.{low_among}
 use Rattle.inode_ops.proofs.OutcomeLemmas.{set_of, view_has, locked_in, locked_more}
-
--- an outcome is what the calls table says, whoever calls
-abbrev pub IsTableOf : View → Call → Outcome → Type 0
-IsTableOf view asked outcome = (client : ClientNo) (user : List ℕ) → IsCallsTable view client user asked outcome
 
 -- the plain call is told this wherever the view may have been read
 abbrev pub AlwaysTold : View → Call → Reply → Type 0

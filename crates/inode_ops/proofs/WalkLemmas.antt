@@ -5,21 +5,21 @@ use Rattle.std.proofs.lemmas.Bool.Decides.{nat_tests}
 use Rattle.std.specs.FinMap as map
 use Rattle.std.specs.List.{AllByRecursion}
 use Rattle.std.specs.Cmp.Lexicographic.{bytes_decides}
-use Rattle.hops_base.specs.Name.{same_name}
+use Rattle.std.specs.Prelude.{bytes_eq}
 use Rattle.hops_base.specs.declared.ids.InodeId.{InodeId}
 use Rattle.hops_base.specs.declared.ids.Mode.{Mode}
 use Rattle.hops_base.specs.declared.key.Key.{Key}
 use Rattle.hops_base.specs.declared.key.Key.TheVariants as key
 use Rattle.name_space.specs.Namespace.{is_within}
-use Rattle.name_space.specs.PathLaws.{is_within-append}
+use Rattle.name_space.proofs.PathLaws.{is_within-append}
 use Rattle.inode_table.specs.declared.inode.Inode.{Inode}
 use Rattle.inode_table.specs.declared.inode.Kind.{Kind}
 use Rattle.inode_table.specs.declared.inode.Kind.TheVariants.{Dir, File}
 use Rattle.db_state.specs.State.{root_key}
 use Rattle.db_state.specs.Spelled.{Inodes, child_of, spelled, IsTree}
 use Rattle.db_state.specs.Current.{stops_at, Leads, IsThere, IsMissing}
-use Rattle.db_state.specs.PathLaws.{injective, same_id}
-use Rattle.db_state.specs.ChainLaws.{reverse-push}
+use Rattle.db_state.proofs.PathLaws.{injective, same_id}
+use Rattle.db_state.proofs.ChainLaws.{reverse-push}
 use Rattle.inode_ops.specs.QuotaSteps.{has_id}
 
 -- the row found stands at the end of these names, the last of them first
@@ -105,7 +105,7 @@ module _ (inodes : Inodes) (locked : List (Key × Mode)) where
         equal m n e = grind (arith, nat_tests)
     found_above (name ∷ more) [] up first rows missing x at leads there none within spelt = absurd (true≢false (sym within))
     found_above (name ∷ more) (other ∷ names) up first [] missing x at leads there none within spelt =
-        let parts = and_parts (same_name name other) (is_within more names) within in
+        let parts = and_parts (bytes_eq name other) (is_within more names) within in
         let same : name ≡ other = (bytes_decides name other).0 parts.0 in
         let end : spelled inodes (name ∷ up) ≡ None = stopped up first name missing first.1.kind at refl (leads ∙ ap (stops_at first.1.kind first.1.id) (sym same)) none in
         let gone : spelled inodes (reverse (name ∷ more) ++ up) ≡ None = ap (spelled inodes) (flipped name more up) ∙ none_further inodes (reverse more) (name ∷ up) end in
@@ -114,7 +114,7 @@ module _ (inodes : Inodes) (locked : List (Key × Mode)) where
         flipped : (name : List ℕ) (more up : List (List ℕ)) → reverse (name ∷ more) ++ up ≡ reverse more ++ name ∷ up
         flipped name more up = ap (λ (p : List (List ℕ)). p ++ up) (reverse-push name more) ∙ append_assoc (reverse more) (name ∷ []) up
     found_above (name ∷ more) (other ∷ names) up first (next_row ∷ rows) missing x at leads there none within spelt =
-        let parts = and_parts (same_name name other) (is_within more names) within in
+        let parts = and_parts (bytes_eq name other) (is_within more names) within in
         let same : name ≡ other = (bytes_decides name other).0 parts.0 in
         let key_is : next_row.0 ≡ key.Inode first.1.id name = leads.1 ∙ ap (key.Inode first.1.id) (sym same) in
         let further : spelled inodes (reverse more ++ name ∷ up) ≡ Some x = ap (spelled inodes) (sym (regroup more name up)) ∙ spelt in

@@ -13,7 +13,8 @@ use Rattle.db_state.specs.declared.view.View.{View}
 use Rattle.db_state.specs.declared.outcome.Outcome.{Outcome}
 use Rattle.db_state.specs.declared.outcome.Outcome.TheVariants.{Answer, Subtree}
 use Rattle.db_state.specs.declared.writes.Row.TheVariants as row
-use Rattle.db_state.specs.NewFile.{new_file_rows}
+use Rattle.name_space.specs.Plain.{file_mode}
+use Rattle.inode_ops.specs.NewFile.{new_file_rows}
 use Rattle.db_state.specs.Plan.{last_found, deepest, is_whole}
 use Rattle.db_state.specs.QuotaWrites.{raised, lowered}
 use Rattle.inode_ops.specs.QuotaSteps.{first_full, GoesOnCounted}
@@ -21,42 +22,46 @@ use Rattle.inode_ops.specs.Steps.{missing_names, IsRefused}
 
 -- the file without bytes, written by this client and owned by this user
 abbrev pub overwritten : ClientNo → List ℕ → Inode → Inode
-overwritten client owner file = record file { len = 0; writer = Some client; mode = 420; owner = owner }
+overwritten client owner file = record file { len = 0; writer = Some client; mode = file_mode; owner = owner }
 
--- a file of the last of these names is made, with directories of the others below the last row found, and the quota rows
--- above are raised by all of them
+-- the outcome makes a file of the last of these names, with directories of the others below the last row found, and raises
+-- the quota rows above by all of them
 abbrev pub IsFiled : Inode → Place → View → ClientNo → List ℕ → List (List ℕ) → Outcome → Type 0
 IsFiled last place view client owner names (Answer reply writes) =
     (reply ≡ Truth true) × (ups : List (List ℕ)) × (name : List ℕ) × (names ≡ ups ++ name ∷ [])
-    × GoesOnCounted (new_file_rows last.id.0 view.next.0 owner ups name client) place.found.items view.quotas.items (raised (length names) 0) writes.items
+    × GoesOnCounted (new_file_rows last.id.0 view.next.0 owner ups name client) place.found.items view.quotas.items
+    (raised (length names) 0) writes.items
 IsFiled last place view client owner names (Subtree kind) = ⊥
 
--- it is, unless there is no room
+-- the outcome makes it, unless a quota row refuses
 abbrev pub IsFiledUnless : Option Exception → Inode → Place → View → ClientNo → List ℕ → List (List ℕ) → Outcome → Type 0
 IsFiledUnless None last place view client owner names outcome = IsFiled last place view client owner names outcome
 IsFiledUnless (Some exception) last place view client owner names outcome = IsRefused exception outcome
 
--- the file of the missing names is made, or a quota row has no room
+-- the outcome makes the file of the missing names, or the first full quota row refuses
 abbrev pub MakesFile : Inode → Place → View → ClientNo → List ℕ → Outcome → Type 0
 MakesFile last place view client owner outcome =
-    IsFiledUnless (first_full place.path place.found.items view.quotas.items (length (missing_names place))) last place view client owner (missing_names place) outcome
+    IsFiledUnless (first_full place.path place.found.items view.quotas.items (length (missing_names place))) last place view client
+    owner (missing_names place) outcome
 
--- this file is overwritten, and the quota rows above are lowered by its bytes
+-- the outcome overwrites this file, and lowers the quota rows above by its bytes
 abbrev pub IsOverwritten : Key × Inode → Place → View → ClientNo → List ℕ → Outcome → Type 0
 IsOverwritten found place view client owner (Answer reply writes) =
-    (reply ≡ Truth true) × GoesOnCounted ((found.0, Some (row.Inode (overwritten client owner found.1))) ∷ []) place.found.items view.quotas.items (lowered 0 found.1.len) writes.items
+    (reply ≡ Truth true) × GoesOnCounted ((found.0, Some (row.Inode (overwritten client owner found.1))) ∷ []) place.found.items
+    view.quotas.items (lowered 0 found.1.len) writes.items
 IsOverwritten found place view client owner (Subtree kind) = ⊥
 
--- so is the file found last
+-- the outcome overwrites the file found last
 abbrev pub Overwrites : Place → View → ClientNo → List ℕ → Outcome → Type 0
-Overwrites place view client owner outcome = IfSome (last_found place) (λ (found : Key × Inode). IsOverwritten found place view client owner outcome)
+Overwrites place view client owner outcome =
+    IfSome (last_found place) (λ (found : Key × Inode). IsOverwritten found place view client owner outcome)
 
--- what `create` answers where a file is there
+-- what `create` answers where a file is there, and may be overwritten or not
 abbrev pub AtFile : Bool → Place → View → ClientNo → List ℕ → Outcome → Type 0
 AtFile true place view client owner outcome = Overwrites place view client owner outcome
 AtFile false place view client owner outcome = IsRefused FileAlreadyExists outcome
 
--- what it answers where this row is the last found, of this kind, and the path is whole or not
+-- what `create` answers where this row is the last found, of this kind, and the path is whole or not
 abbrev pub CreateOf : Kind → Bool → Inode → Place → View → ClientNo → List ℕ → Bool → Outcome → Type 0
 CreateOf Dir true last place view client owner overwrite outcome = IsRefused FileAlreadyExists outcome
 CreateOf Dir false last place view client owner overwrite outcome = MakesFile last place view client owner outcome

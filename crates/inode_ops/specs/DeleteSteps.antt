@@ -27,16 +27,17 @@ removals found = (found.0, None) ∷ where_so found.1.has_quota ((key.Quota foun
 -- the last row found goes, and the quota rows of the directories above it count it no more
 abbrev pub RemovesLast : Place → List (InodeId × QuotaRow) → List (Key × Option Row) → Type 0
 RemovesLast place seen writes =
-    IfSome (last_found place) (λ (last : Key × Inode). GoesOnCounted (removals last) (take (length place.found.items - 1) place.found.items) seen (lowered 1 (counted_bytes last.1.kind last.1)) writes)
+    IfSome (last_found place) (λ (last : Key × Inode). GoesOnCounted (removals last) (take (length place.found.items - 1) place.found.items)
+    seen (lowered 1 (counted_bytes last.1.kind last.1)) writes)
 
 -- ---- the outcome
 
--- the row of the path goes
+-- the outcome removes the row of the path
 abbrev pub IsRemoved : Place → List (InodeId × QuotaRow) → Outcome → Type 0
 IsRemoved place seen (Answer reply writes) = (reply ≡ Truth true) × RemovesLast place seen writes.items
 IsRemoved place seen (Subtree kind) = ⊥
 
--- what `delete` answers where there is nothing that may go, or not, and a child is below it, or none
+-- what `delete` answers where nothing may go, or something, and the place has a child, or none
 abbrev pub DeleteOf : Bool → Bool → Place → List (InodeId × QuotaRow) → Outcome → Type 0
 DeleteOf true child place seen outcome = IsTold (Truth false) outcome
 DeleteOf false true place seen outcome = IsRefused PathIsNotEmptyDirectory outcome

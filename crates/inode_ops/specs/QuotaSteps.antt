@@ -17,7 +17,7 @@ use Rattle.name_space.specs.Namespace.{Path, above}
 use Rattle.name_space.specs.Quota.{first_some, refused_over}
 use Rattle.db_state.specs.declared.writes.Row.{Row}
 use Rattle.db_state.specs.QuotaWrites.{quota_writes, raised, lowered}
-use Rattle.db_state.specs.QuotaWriteLaws as quota_laws
+use Rattle.db_state.specs.QuotaWrites as quota_rows
 use Rattle.inode_ops.specs.declared.quotas.Change.{Change}
 use Rattle.inode_ops.specs.declared.quotas.Change.TheVariants.{More, Less}
 
@@ -31,11 +31,13 @@ quota_in quotas id = option_map (λ (q : InodeId × QuotaRow). q.1) (find (λ (q
 abbrev pub full_at : Path → ℕ → Option QuotaRow → Option Exception
 full_at at names None = None
 full_at at names (Some quota) =
-    option_or (refused_over (NSQuotaExceeded at) quota.used_names names quota.max_names) (refused_over (DSQuotaExceeded at) quota.used_bytes 0 quota.max_bytes)
+    option_or (refused_over (NSQuotaExceeded at) quota.used_names names quota.max_names)
+    (refused_over (DSQuotaExceeded at) quota.used_bytes 0 quota.max_bytes)
 
 -- why the first of the directories found above a path has none
 abbrev pub first_full : Path → List (Key × Inode) → List (InodeId × QuotaRow) → ℕ → Option Exception
-first_full path found quotas names = first_some (map (λ (d : Path × (Key × Inode)). full_at d.0 names (quota_in quotas d.1.1.id)) (zip (above path) found))
+first_full path found quotas names =
+    first_some (map (λ (d : Path × (Key × Inode)). full_at d.0 names (quota_in quotas d.1.1.id)) (zip (above path) found))
 
 -- the refusal where something doesn't fit below this path
 abbrev pub refusal : Path → Fit → Option Exception
@@ -55,7 +57,7 @@ abbrev pub CanCountIn : Change → QuotaRow → Type 0
 CanCountIn (More names bytes) quota = (quota.used_names + names < 2 ^ 64) × (1 ≤ bytes → quota.used_bytes + bytes < 2 ^ 64)
 CanCountIn (Less names bytes) quota = ⊤
 
--- so can each of these
+-- each of these quota rows can
 abbrev pub CanCount : Change → List (InodeId × QuotaRow) → Type 0
 CanCount (More names bytes) quotas = AllByRecursion (λ (q : InodeId × QuotaRow). CanCountIn (More names bytes) q.1) quotas
 CanCount (Less names bytes) quotas = ⊤
@@ -79,10 +81,14 @@ abbrev pub IsQuotaFound : List (Key × Inode) → List (InodeId × QuotaRow) →
 IsQuotaFound rows seen q = (has_id rows q.0 ≡ true) × (quota_in seen q.0 ≡ Some q.1)
 
 -- these are the quota rows, as they were read, of all the directories found but for those whose quota rows were written
-pub record AreQuotasFound (rows : List (Key × Inode)) (seen : List (InodeId × QuotaRow)) (before : List (Key × Option Row)) (quotas : List (InodeId × QuotaRow)) : Type 0 where
+pub record AreQuotasFound (rows : List (Key × Inode)) (seen : List (InodeId × QuotaRow)) (before : List (Key × Option Row))
+    (quotas : List (InodeId × QuotaRow)) : Type 0 where
   pub each : AllByRecursion (IsQuotaFound rows seen) quotas
-  pub all : (id : InodeId) (quota : QuotaRow) → has_id rows id ≡ true → quota_in seen id ≡ Some quota → list_any (same_key (key.Quota id)) (keys_of before) ≡ false → quota_laws.is_written quotas id ≡ true
+  pub all : (id : InodeId) (quota : QuotaRow) → has_id rows id ≡ true → quota_in seen id ≡ Some quota
+      → list_any (same_key (key.Quota id)) (keys_of before) ≡ false → quota_rows.is_written quotas id ≡ true
 
 -- after some writes come the quota rows of the directories found, each changed so
-abbrev pub GoesOnCounted : List (Key × Option Row) → List (Key × Inode) → List (InodeId × QuotaRow) → (QuotaRow → QuotaRow) → List (Key × Option Row) → Type 0
-GoesOnCounted before rows seen change writes = (quotas : List (InodeId × QuotaRow)) × (writes ≡ before ++ quota_writes change quotas) × AreQuotasFound rows seen before quotas
+abbrev pub GoesOnCounted : List (Key × Option Row) → List (Key × Inode) → List (InodeId × QuotaRow) → (QuotaRow → QuotaRow)
+    → List (Key × Option Row) → Type 0
+GoesOnCounted before rows seen change writes =
+    (quotas : List (InodeId × QuotaRow)) × (writes ≡ before ++ quota_writes change quotas) × AreQuotasFound rows seen before quotas

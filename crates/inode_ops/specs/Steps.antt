@@ -23,21 +23,22 @@ use Rattle.inode_ops.specs.QuotaSteps.{first_full, GoesOnCounted}
 abbrev pub status_of : Inode → FileStatus
 status_of inode = status_of_kind inode.kind inode
 
--- nothing is written, and this is told
+-- the outcome writes nothing, and tells this
 abbrev pub IsTold : Reply → Outcome → Type 0
 IsTold told (Answer reply writes) = (reply ≡ told) × (writes.items ≡ [])
 IsTold told (Subtree kind) = ⊥
 
--- nothing is written, and this is refused
+-- the outcome writes nothing, and refuses with this
 abbrev pub IsRefused : Exception → Outcome → Type 0
 IsRefused exception outcome = IsTold (Refused exception) outcome
 
--- directories are made below the last row found, and the quota rows above them raised
+-- the outcome makes directories of these names below the last row found, and raises the quota rows above them
 abbrev pub IsMade : Inode → Place → List (InodeId × QuotaRow) → ℕ → List ℕ → List (List ℕ) → Outcome → Type 0
-IsMade last place quotas next owner names (Answer reply writes) = (reply ≡ Truth true) × GoesOnCounted (new_dirs last.id.0 next owner names) place.found.items quotas (raised (length names) 0) writes.items
+IsMade last place quotas next owner names (Answer reply writes) =
+    (reply ≡ Truth true) × GoesOnCounted (new_dirs last.id.0 next owner names) place.found.items quotas (raised (length names) 0) writes.items
 IsMade last place quotas next owner names (Subtree kind) = ⊥
 
--- they are, unless there is no room
+-- the outcome makes them, unless a quota row refuses
 abbrev pub IsMadeUnless : Option Exception → Inode → Place → List (InodeId × QuotaRow) → ℕ → List ℕ → List (List ℕ) → Outcome → Type 0
 IsMadeUnless None last place quotas next owner names outcome = IsMade last place quotas next owner names outcome
 IsMadeUnless (Some exception) last place quotas next owner names outcome = IsRefused exception outcome
@@ -46,10 +47,11 @@ IsMadeUnless (Some exception) last place quotas next owner names outcome = IsRef
 abbrev pub missing_names : Place → List (List ℕ)
 missing_names place = drop (length place.found.items - 1) place.path
 
--- the directories of the missing names are made, or a quota row has no room
+-- the outcome makes the directories of the missing names, or the first full quota row refuses
 abbrev pub MakesMissing : Inode → Place → List (InodeId × QuotaRow) → ℕ → List ℕ → Outcome → Type 0
 MakesMissing last place quotas next owner outcome =
-    IsMadeUnless (first_full place.path place.found.items quotas (length (missing_names place))) last place quotas next owner (missing_names place) outcome
+    IsMadeUnless (first_full place.path place.found.items quotas (length (missing_names place))) last place quotas next owner
+    (missing_names place) outcome
 
 -- what `mkdirs` answers where this row is the last found, of this kind, and the path is whole or not
 abbrev pub MkdirsOf : Kind → Bool → Inode → Place → List (InodeId × QuotaRow) → ℕ → List ℕ → Outcome → Type 0
@@ -60,7 +62,8 @@ MkdirsOf File false last place quotas next owner outcome = IsRefused ParentNotDi
 
 -- what `mkdirs` answers
 abbrev pub AnswersMkdirs : Place → List (InodeId × QuotaRow) → ℕ → List ℕ → Outcome → Type 0
-AnswersMkdirs place quotas next owner outcome = IfSome (deepest place) (λ last. MkdirsOf last.kind (is_whole place) last place quotas next owner outcome)
+AnswersMkdirs place quotas next owner outcome =
+    IfSome (deepest place) (λ last. MkdirsOf last.kind (is_whole place) last place quotas next owner outcome)
 
 -- what `stat` answers where this row is the last found, and the path is whole or not
 abbrev pub StatOf : Bool → Inode → Outcome → Type 0

@@ -3,7 +3,7 @@
 ghost use Rattle.std.specs.Prelude.{IfOk};
 ghost use Rattle.db_state.specs.Locked.{WritesOwn};
 ghost use Rattle.inode_ops.specs.Outcomes.{IsViewOf};
-ghost use Rattle.inode_ops.specs.Table.{IsCallsTable};
+ghost use Rattle.db_state.specs.CallsTable.{IsCallsTable};
 
 use crate::chmod::chmod;
 use crate::create::create;
@@ -17,9 +17,9 @@ use hops_base::{ClientNo, NoMemory, User};
 use name_space::Call;
 use std::alloc::Global;
 
-/// What the call of this client and user does on the namespace of which the view was read: the reply, and
-/// the rows to write, which are none where the call is refused or only looks. It writes nothing itself, and its one error
-/// is want of memory.
+/// The reply to this client's and user's call, and the rows to write, from what the view has. Given consistent tables and
+/// a current view, it replies as the plain call does; after its writes the rows represent the call's namespace. They are
+/// none where the call is refused or only looks. It writes nothing itself, and its one error is want of memory.
 pub fn outcome(
     alloc: Global,
     view: &View,

@@ -1,13 +1,10 @@
 //! `chmod`.
 
-ghost use Rattle.std.specs.Prelude.{◌≡◌, ◌≤◌, ℕ, List, length, IfOk};
-ghost use Rattle.hops_base.specs.declared.ids.ClientNo.{ClientNo};
+ghost use Rattle.std.specs.Prelude.{◌≡◌, ◌≤◌, length, IfOk};
 ghost use Rattle.name_space.specs.declared.call.Call.TheVariants as call;
-ghost use Rattle.db_state.specs.Locked.{WritesOwn};
 ghost use Rattle.db_state.specs.Plan.{last_found};
 ghost use Rattle.inode_ops.specs.ChmodSteps.{with_mode, IsModeSet};
-ghost use Rattle.inode_ops.specs.Outcomes.{IsViewOf};
-ghost use Rattle.inode_ops.specs.Table.{IsCallsTable};
+ghost use Rattle.inode_ops.specs.Outcomes.{IsViewOf, IsTableOf, IsOwnOf};
 
 use crate::place::{is_whole, only_place};
 use crate::told::refused;
@@ -20,8 +17,8 @@ use std::alloc::Global;
 /// Gives what stands at the path this mode, unless that is the root.
 pub fn chmod(alloc: Global, view: &View, path: &Path, mode: u16) -> Result<Outcome, NoMemory>
     requires { IsViewOf view.now (call.Chmod path.now mode) }
-    ensures table { IfOk result (λ outcome. (client : ClientNo) (user : List ℕ) → IsCallsTable view.now client user (call.Chmod path.now mode) outcome) }
-    ensures own { IfOk result (λ outcome. (client : ClientNo) → WritesOwn view.now client (call.Chmod path.now mode) outcome) }
+    ensures table { IfOk result (IsTableOf view.now (call.Chmod path.now mode)) }
+    ensures own { IfOk result (IsOwnOf view.now (call.Chmod path.now mode)) }
 {
     let place = only_place(view);
     if path.len() == 0 {

@@ -4,10 +4,10 @@ ghost use Rattle.std.specs.Prelude.{◌≡◌, ◌+◌, ◌^◌, ◌<◌, ◌≤
 ghost use Rattle.name_space.specs.declared.call.Call.TheVariants as call;
 ghost use Rattle.db_state.specs.Current.{SpellsPlace};
 ghost use Rattle.db_state.specs.Locked.{WritesOwn};
-ghost use Rattle.db_state.specs.NewFile.{new_file, new_file_rows, last_dir};
+ghost use Rattle.inode_ops.specs.NewFile.{new_file, new_file_rows, last_dir};
 ghost use Rattle.inode_ops.specs.CreateSteps.{overwritten, AnswersCreate, MakesFile, Overwrites};
-ghost use Rattle.inode_ops.specs.Outcomes.{IsViewOf, CanMake, CanRaise};
-ghost use Rattle.inode_ops.specs.Table.{IsCallsTable};
+ghost use Rattle.inode_ops.specs.Outcomes.{IsViewOf, CanMake, HasRoomUnlessFull};
+ghost use Rattle.db_state.specs.CallsTable.{IsCallsTable};
 
 use crate::directories::new_dirs;
 use crate::place::{deepest, is_whole, last_found, only_place};
@@ -16,11 +16,8 @@ use crate::told::refused;
 use db_state::{Outcome, Place, Row, View, Writes};
 use hops_base::{ClientNo, InodeId, Key, Name, NoMemory, Path, User};
 use inode_table::{Inode, Kind};
-use name_space::{Exception, Reply};
+use name_space::{Exception, FILE_MODE, Reply};
 use std::alloc::Global;
-
-/// The mode of a new file.
-const FILE_MODE: u16 = 0o644;
 
 /// Makes a new file that this client writes, and the directories above it that are missing. A file that is there is
 /// overwritten where that is asked.
@@ -48,7 +45,8 @@ fn create_at(
     user: &User,
     overwrite: bool,
 ) -> Result<Outcome, NoMemory>
-    requires { CanMake place.now view.now.quotas.items view.now.next.0 }
+    requires spells { SpellsPlace place.now }
+    requires room { CanMake place.now view.now.quotas.items view.now.next.0 }
     ensures { IfOk result (AnswersCreate place.now view.now client user.now overwrite) }
 {
     let whole = is_whole(place);
@@ -73,9 +71,7 @@ fn make_file(
 ) -> Result<Outcome, NoMemory>
     requires some { 1 ≤ length place.now.found.items }
     requires part { length place.now.found.items ≤ length place.now.path }
-    requires below { last.now.id.0 < view.now.next.0 }
-    requires ids { view.now.next.0 + length place.now.path < 2 ^ 64 }
-    requires raise { CanRaise (length place.now.path) view.now.quotas.items }
+    requires room { HasRoomUnlessFull last.now place.now view.now.quotas.items view.now.next.0 }
     ensures { IfOk result (MakesFile last.now place.now view.now client user.now) }
 {
     let missing = &place.path.names()[place.found.len() as usize - 1..];

@@ -1,14 +1,10 @@
 //! `delete` of a file or of an empty directory.
 
-ghost use Rattle.std.specs.Prelude.{false, ℕ, List, IfOk};
-ghost use Rattle.hops_base.specs.declared.ids.ClientNo.{ClientNo};
+ghost use Rattle.std.specs.Prelude.{false, IfOk};
 ghost use Rattle.name_space.specs.declared.call.Call.TheVariants as call;
 ghost use Rattle.db_state.specs.Current.{SpellsPlace};
-ghost use Rattle.db_state.specs.Locked.{WritesOwn};
-ghost use Rattle.db_state.specs.declared.outcome.Outcome.{Outcome};
 ghost use Rattle.inode_ops.specs.DeleteSteps.{RemovesLast, AnswersDelete};
-ghost use Rattle.inode_ops.specs.Outcomes.{IsViewOf};
-ghost use Rattle.inode_ops.specs.Table.{IsCallsTable};
+ghost use Rattle.inode_ops.specs.Outcomes.{IsViewOf, IsTableOf, IsOwnOf};
 
 use crate::place::{is_whole, only_place};
 use crate::quotas::{Change, recount};
@@ -24,8 +20,8 @@ use std::alloc::Global;
 /// memory.
 pub fn delete(alloc: Global, view: &View, path: &Path) -> Result<Outcome, NoMemory>
     requires { IsViewOf view.now (call.Delete path.now false) }
-    ensures table { IfOk result (λ outcome. (client : ClientNo) (user : List ℕ) → IsCallsTable view.now client user (call.Delete path.now false) outcome) }
-    ensures own { IfOk result (λ outcome. (client : ClientNo) → WritesOwn view.now client (call.Delete path.now false) outcome) }
+    ensures table { IfOk result (IsTableOf view.now (call.Delete path.now false)) }
+    ensures own { IfOk result (IsOwnOf view.now (call.Delete path.now false)) }
 {
     let place = only_place(view);
     delete_at(alloc, place, view.quotas.as_slice())

@@ -1,15 +1,15 @@
 //! `mkdirs`.
 
 ghost use Rattle.std.specs.Prelude.{◌≡◌, ◌+◌, ◌^◌, ◌<◌, ◌≤◌, length, IfOk};
-ghost use Rattle.db_state.specs.State.{new_dir};
 ghost use Rattle.db_state.specs.NewDirs.{new_dirs};
-ghost use Rattle.inode_ops.specs.Outcomes.{CanMake, CanRaise};
+ghost use Rattle.db_state.specs.Current.{SpellsPlace};
+ghost use Rattle.inode_ops.specs.Outcomes.{CanMake, HasRoomUnlessFull};
 ghost use Rattle.inode_ops.specs.Steps.{AnswersMkdirs, MakesMissing};
 
 use crate::place::{deepest, is_whole};
 use crate::quotas::{Change, first_full, recount};
 use crate::told::{refused, told};
-use db_state::{Outcome, Place, Row, Writes};
+use db_state::{Outcome, Place, Row, Writes, new_dir};
 use hops_base::{InodeId, Key, Name, NoMemory, User};
 use inode_table::{Inode, Kind};
 use name_space::{Exception, Reply};
@@ -24,7 +24,8 @@ pub fn mkdirs(
     next: InodeId,
     user: &User,
 ) -> Result<Outcome, NoMemory>
-    requires { CanMake place.now quotas.now next.0 }
+    requires spells { SpellsPlace place.now }
+    requires room { CanMake place.now quotas.now next.0 }
     ensures { IfOk result (AnswersMkdirs place.now quotas.now next.0 user.now) }
 {
     let whole = is_whole(place);
@@ -48,9 +49,7 @@ fn make_missing(
 ) -> Result<Outcome, NoMemory>
     requires some { 1 ≤ length place.now.found.items }
     requires within { length place.now.found.items ≤ length place.now.path }
-    requires below { last.now.id.0 < next.0 }
-    requires ids { next.0 + length place.now.path < 2 ^ 64 }
-    requires raise { CanRaise (length place.now.path) quotas.now }
+    requires room { HasRoomUnlessFull last.now place.now quotas.now next.0 }
     ensures { IfOk result (MakesMissing last.now place.now quotas.now next.0 user.now) }
 {
     let missing = &place.path.names()[place.found.len() as usize - 1..];
@@ -82,24 +81,9 @@ pub fn new_dirs(
     let mut id = next;
     for name in names {
         let key = Key::Inode(parent, name.copy()?);
-        writes.push((key, Some(Row::Inode(new_dir(id, user)?))));
+        writes.push((key, Some(Row::Inode(new_dir(id, user.copy()?)))));
         parent = id;
         id = InodeId(id.0 + 1);
     }
     Ok(writes)
-}
-
-fn new_dir(id: InodeId, user: &User) -> Result<Inode, NoMemory>
-    ensures { IfOk result (λ inode. inode ≡ new_dir id.0 user.now) }
-{
-    Ok(Inode {
-        id,
-        kind: Kind::Dir,
-        len: 0,
-        writer: None,
-        mode: 493,
-        owner: user.copy()?,
-        has_quota: false,
-        flag: None,
-    })
 }

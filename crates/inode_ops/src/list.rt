@@ -1,12 +1,9 @@
 //! `list`.
 
-ghost use Rattle.std.specs.Prelude.{◌≡◌, ◌∷◌, [], ℕ, List, IfOk};
-ghost use Rattle.hops_base.specs.declared.ids.ClientNo.{ClientNo};
+ghost use Rattle.std.specs.Prelude.{◌≡◌, ◌∷◌, [], IfOk};
 ghost use Rattle.name_space.specs.declared.call.Call.TheVariants as call;
 ghost use Rattle.db_state.specs.Current.{listed_row};
-ghost use Rattle.db_state.specs.Locked.{WritesOwn};
-ghost use Rattle.inode_ops.specs.Outcomes.{IsViewOf};
-ghost use Rattle.inode_ops.specs.Table.{IsCallsTable};
+ghost use Rattle.inode_ops.specs.Outcomes.{IsViewOf, IsTableOf, IsOwnOf};
 
 use crate::place::{deepest, is_whole, only_place};
 use crate::told::{refused, told};
@@ -20,8 +17,8 @@ use std::alloc::Global;
 /// missing.
 pub fn list(alloc: Global, view: &View, path: &Path) -> Result<Outcome, NoMemory>
     requires { IsViewOf view.now (call.List path.now) }
-    ensures table { IfOk result (λ outcome. (client : ClientNo) (user : List ℕ) → IsCallsTable view.now client user (call.List path.now) outcome) }
-    ensures own { IfOk result (λ outcome. (client : ClientNo) → WritesOwn view.now client (call.List path.now) outcome) }
+    ensures table { IfOk result (IsTableOf view.now (call.List path.now)) }
+    ensures own { IfOk result (IsOwnOf view.now (call.List path.now)) }
 {
     let place = only_place(view);
     if !is_whole(place) {

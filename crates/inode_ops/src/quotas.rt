@@ -52,7 +52,8 @@ fn refusal_at(
 ) -> Result<Option<Exception>, NoMemory>
     requires found { depth < length place.now.found.items }
     requires above { depth ≤ length place.now.path }
-    ensures { IfOk result (λ told. (found : Key × Inode) → slice_get place.now.found.items depth ≡ Some found → told ≡ full_at (take depth place.now.path) names (quota_in quotas.now found.1.id)) }
+    ensures { IfOk result (λ told. (found : Key × Inode) → slice_get place.now.found.items depth ≡ Some found →
+        told ≡ full_at (take depth place.now.path) names (quota_in quotas.now found.1.id)) }
 {
     let Some((_, row)) = place.found.get(depth) else {
         unreachable!()
@@ -149,7 +150,10 @@ pub fn recount(
 fn recount_row(writes: &mut Writes, quotas: &[(InodeId, QuotaRow)], id: InodeId, change: Change)
     requires room { length writes.old.items < writes.old.room }
     requires count { CanCount change quotas.now }
-    ensures { writes.new ≡ record writes.old { items = writes.old.items ++ quota_writes (counted change) (quota_left id (quota_in quotas.now id) (is_written writes.old.items (key.Quota id))) } }
+    ensures { writes.new ≡ record writes.old {
+      items = writes.old.items ++
+          quota_writes (counted change) (quota_left id (quota_in quotas.now id) (is_written writes.old.items (key.Quota id)));
+    } }
 {
     let Some(quota) = quota_in(quotas, id) else {
         return;

@@ -13,13 +13,8 @@ use quota_table::QuotaRow;
 use std::alloc::Global;
 use text::line_of;
 
-mod chmod;
-mod create;
-mod delete;
-mod list;
-mod mkdirs;
+mod outcomes;
 mod places;
-mod stat;
 mod text;
 
 // The quota row of the directory 5, of which two names and 70 bytes are used, if it has one.

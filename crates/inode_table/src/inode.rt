@@ -4,6 +4,7 @@ ghost use Rattle.std.specs.Prelude.{◌≡◌, IfOk};
 ghost use Rattle.inode_table.specs.Inode.{counted_bytes};
 
 use hops_base::{ClientNo, InodeId, NoMemory, OpId, User};
+use row_store::Table;
 
 /// What an inode is.
 #[derive(Clone, Copy, Debug, PartialEq, Eq)]
@@ -62,3 +63,6 @@ impl Inode {
         }
     }
 }
+
+/// The inodes by key, and the keys that are ready for one.
+pub type InodeTable = Table<Inode>;

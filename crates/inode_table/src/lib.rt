@@ -1,15 +1,12 @@
-//! The table of inodes.
+//! The inodes and their table.
 //!
-//! It stands on `hops_base` for the keys and `row_store` for the rows, and promises that [`InodeTable`] is a
-//! finite map from keys to inodes and a set of keys that are ready for one: each call answers by that map
-//! exactly, a change is one of that map, and only `new`, `reserve`, `children` and [`Inode::copy`] take
-//! memory.
+//! It stands on `hops_base` for ids and users and on `row_store` for the table. It promises that
+//! [`Inode::copy`] gives the same inode again and [`Inode::bytes`] the bytes that it counts.
+//! [`InodeTable`] is `row_store`'s table at inodes, with all that it promises.
 #![tactic(auto)]
 
 mod inode;
-mod table;
 #[cfg(test)]
 mod tests;
 
-pub use inode::{Inode, Kind};
-pub use table::InodeTable;
+pub use inode::{Inode, InodeTable, Kind};

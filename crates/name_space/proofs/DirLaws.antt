@@ -8,9 +8,9 @@ use Rattle.name_space.specs.declared.entry.Entry.{Entry}
 use Rattle.name_space.specs.declared.entry.Entry.TheVariants.{Dir, File}
 use Rattle.name_space.specs.Namespace.{Namespace, Path, IsNamespace, entry_at, exists, is_dir, is_file, new_dir, with_entry, is_within, missing, nearest}
 use Rattle.name_space.specs.Plain.{with_dirs}
-use Rattle.name_space.specs.PathLaws.{is_within-self, is_within-append, is_within-rest, is_within-trans, not_within-push}
-use Rattle.name_space.specs.NamespaceLaws.{Rises-with_dirs, same_spaces, names_at, dir-exists, missing_within}
-use Rattle.name_space.specs.PrefixLaws.{entry_at-with_missing, nearest_at}
+use Rattle.name_space.proofs.PathLaws.{is_within-self, is_within-append, is_within-rest, is_within-trans, not_within-push}
+use Rattle.name_space.proofs.NamespaceLaws.{Rises-with_dirs, same_spaces, names_at, dir-exists, missing_within}
+use Rattle.name_space.proofs.PrefixLaws.{entry_at-with_missing, nearest_at}
 use Rattle.name_space.proofs.KeepLaws.{by_looks, kind_kept, leaf_kept}
 
 file_or_dir : (entry : Entry) → is_dir (Some entry) ≡ false → is_file (Some entry) ≡ true

@@ -11,9 +11,9 @@ use Rattle.name_space.specs.Namespace.{Namespace, Path, IsNamespace, entry_at, e
 use Rattle.name_space.specs.Quota.{over_quota, newly_above}
 use Rattle.name_space.specs.Plain.{Answered, told, refused, granted, unless, is_root, last_name}
 use Rattle.name_space.specs.Rename.{moved, rename, rename_to, has_parent, target_of}
-use Rattle.name_space.specs.PathLaws.{same_path-self, same_path-not, is_within-append, is_within-pop, not_within-apart, within_either}
-use Rattle.name_space.specs.NamespaceLaws.{none_from, missing_within}
-use Rattle.name_space.specs.MoveLaws.{moved-within, moved-gone, moved-stays}
+use Rattle.name_space.proofs.PathLaws.{same_path-self, same_path-not, is_within-append, is_within-pop, not_within-apart, within_either}
+use Rattle.name_space.proofs.NamespaceLaws.{none_from, missing_within}
+use Rattle.name_space.proofs.MoveLaws.{moved-within, moved-gone, moved-stays}
 use Rattle.name_space.specs.Laws.{IsMoved, RenameMovesAll}
 
 -- where the first of two answers isn't true, an answer that is comes from the second

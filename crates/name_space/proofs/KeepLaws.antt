@@ -1,5 +1,5 @@
 -- Changes at one place that leave a namespace.
-use Rattle.std.proofs.Common.{◌≡◌, ◌≢◌, ℕ, Bool, true, false, not, ◌&&◌, ◌||◌, cond, List, [], ◌∷◌, ◌++◌, Option, Some, None, is_some, IsSome, refl, sym, ap, ◌∙◌, inl, inr}
+use Rattle.std.proofs.Common.{◌≡◌, ◌≢◌, ℕ, Bool, true, false, not, ◌&&◌, ◌||◌, cond, List, [], ◌∷◌, ◌++◌, Option, Some, None, is_some, IsSome, sym, ap, ◌∙◌, inl, inr}
 use Rattle.std.specs.List.{list_all}
 use Rattle.std.proofs.lemmas.Bool.{true≢false, and_parts, or_left, or_right, false_from_ne_true}
 use Rattle.hops_base.specs.Name.{is_name}
@@ -7,8 +7,9 @@ use Rattle.hops_base.specs.Path.{is_below}
 use Rattle.name_space.specs.declared.entry.Entry.{Entry}
 use Rattle.name_space.specs.Namespace.{Namespace, Path, IsNamespace, entry_at, exists, is_dir, with_entry, is_within, without}
 use Rattle.name_space.specs.Cut.{cut, is_among, is_covered}
-use Rattle.name_space.specs.PathLaws.{paths_tell, is_within-append, is_within-push}
-use Rattle.name_space.specs.NamespaceLaws.{Rises, Rises-with_entry, Rises-without, Rises-cut, entry_at-with_entry, entry_at-without, entry_at-cut, all_at, all_from, names_at}
+use Rattle.name_space.proofs.PathLaws.{paths_tell, is_within-append, is_within-push, not_within-root}
+use Rattle.name_space.specs.Namespace.{Rises}
+use Rattle.name_space.proofs.NamespaceLaws.{Rises-with_entry, Rises-without, Rises-cut, entry_at-with_entry, entry_at-without, entry_at-cut, all_at, all_from, names_at}
 use Rattle.name_space.specs.Laws.{CutGivesANamespace}
 
 -- a list is a namespace where it rises, something stands only at names, and the root and what stands above something are directories
@@ -56,24 +57,26 @@ module _ (space : Namespace) (is : IsNamespace space) where
         | inr apart ↦ other up apart.1 ∙ is.parents up name found
       ]
 
+  -- what is left once some paths go: the root stays, and with a path goes what stands one name below it
+  less_kept : (after : Namespace) (goes : Path → Bool) → Rises after → ((at : Path) → entry_at after at ≡ cond (goes at) None (entry_at space at)) → goes [] ≡ false
+      → ((up : Path) (name : List ℕ) → IsSome (entry_at space (up ++ name ∷ [])) → goes up ≡ true → goes (up ++ name ∷ []) ≡ true) → IsNamespace after
+  less_kept after goes rises left root below =
+      by_looks after rises (λ at here. names_at space is at (stood at here)) (stays [] root ∙ is.root)
+      (λ up name here. stays up (false_from_ne_true (goes up) (λ gone. lost (up ++ name ∷ []) (below up name (stood (up ++ name ∷ []) here) gone) here)) ∙ is.parents up name (stood (up ++ name ∷ []) here))
+    where
+      stays : (at : Path) → goes at ≡ false → is_dir (entry_at after at) ≡ is_dir (entry_at space at)
+      stays at out = ap is_dir (left at ∙ ap (λ (b : Bool). cond b None (entry_at space at)) out)
+
+      lost : (at : Path) → goes at ≡ true → IsSome (entry_at after at) → ⊥
+      lost at gone here = true≢false (sym here ∙ ap is_some (left at ∙ ap (λ (b : Bool). cond b None (entry_at space at)) gone))
+
+      stood : (at : Path) → IsSome (entry_at after at) → IsSome (entry_at space at)
+      stood at here = sym (ap is_some (left at ∙ ap (λ (b : Bool). cond b None (entry_at space at)) (false_from_ne_true (goes at) (λ gone. lost at gone here)))) ∙ here
+
   -- all but what stands within a path other than the root
   pub without_kept : (top : Path) → top ≢ [] → IsNamespace (without space top)
   without_kept top not_root =
-      by_looks (without space top) (Rises-without space top is.rises) (λ at here. names_at space is at (stood at here)) (stays [] (outside top not_root) ∙ is.root)
-      (λ up name here. stays up (false_from_ne_true (is_within top up) (λ within. gone (up ++ name ∷ []) (is_within-push top up name within) here)) ∙ is.parents up name (stood (up ++ name ∷ []) here))
-    where
-      outside : (top : Path) → top ≢ [] → is_within top [] ≡ false
-      outside [] not_root = absurd (not_root refl)
-      outside (name ∷ names) not_root = refl
-
-      stays : (at : Path) → is_within top at ≡ false → is_dir (entry_at (without space top) at) ≡ is_dir (entry_at space at)
-      stays at out = ap is_dir (entry_at-without space top at ∙ ap (λ (b : Bool). cond b None (entry_at space at)) out)
-
-      gone : (at : Path) → is_within top at ≡ true → IsSome (entry_at (without space top) at) → ⊥
-      gone at within here = true≢false (sym here ∙ ap is_some (entry_at-without space top at ∙ ap (λ (b : Bool). cond b None (entry_at space at)) within))
-
-      stood : (at : Path) → IsSome (entry_at (without space top) at) → IsSome (entry_at space at)
-      stood at here = sym (ap is_some (entry_at-without space top at ∙ ap (λ (b : Bool). cond b None (entry_at space at)) (false_from_ne_true (is_within top at) (λ within. gone at within here)))) ∙ here
+      less_kept (without space top) (is_within top) (Rises-without space top is.rises) (entry_at-without space top) (not_within-root top not_root) (λ up name here gone. is_within-push top up name gone)
 
 -- ---- a cut
 
@@ -96,19 +99,8 @@ covered_by (first ∷ rest) up path among within = elim (paths_tell up first) [
 ]
 
 pub cut_gives_a_namespace : CutGivesANamespace
-cut_gives_a_namespace space path gone is may =
-    by_looks (cut space gone) (Rises-cut space gone is.rises) (λ at here. names_at space is at (stood at here)) (stays [] root_stays ∙ is.root)
-    (λ up name here. stays up (false_from_ne_true (is_among gone up) (λ among. lost (up ++ name ∷ []) (closed up name among (stood (up ++ name ∷ []) here)) here)) ∙ is.parents up name (stood (up ++ name ∷ []) here))
+cut_gives_a_namespace space path gone is may = less_kept space is (cut space gone) (is_among gone) (Rises-cut space gone is.rises) (entry_at-cut space gone) root_stays closed
   where
-    stays : (at : Path) → is_among gone at ≡ false → is_dir (entry_at (cut space gone) at) ≡ is_dir (entry_at space at)
-    stays at out = ap is_dir (entry_at-cut space gone at ∙ ap (λ (b : Bool). cond b None (entry_at space at)) out)
-
-    lost : (at : Path) → is_among gone at ≡ true → IsSome (entry_at (cut space gone) at) → ⊥
-    lost at among here = true≢false (sym here ∙ ap is_some (entry_at-cut space gone at ∙ ap (λ (b : Bool). cond b None (entry_at space at)) among))
-
-    stood : (at : Path) → IsSome (entry_at (cut space gone) at) → IsSome (entry_at space at)
-    stood at here = sym (ap is_some (entry_at-cut space gone at ∙ ap (λ (b : Bool). cond b None (entry_at space at)) (false_from_ne_true (is_among gone at) (λ among. lost at among here)))) ∙ here
-
     root_stays : is_among gone [] ≡ false
     root_stays = false_from_ne_true (is_among gone []) (λ among. never path (among_at (λ (p : Path). exists space p && is_below p path) gone may.below [] among))
       where
@@ -116,7 +108,7 @@ cut_gives_a_namespace space path gone is may =
         never [] both = true≢false (sym (and_parts (exists space []) false both).1)
         never (name ∷ names) both = true≢false (sym (and_parts (exists space []) false both).1)
 
-    closed : (up : Path) (name : List ℕ) → is_among gone up ≡ true → IsSome (entry_at space (up ++ name ∷ [])) → is_among gone (up ++ name ∷ []) ≡ true
-    closed up name among here =
+    closed : (up : Path) (name : List ℕ) → IsSome (entry_at space (up ++ name ∷ [])) → is_among gone up ≡ true → is_among gone (up ++ name ∷ []) ≡ true
+    closed up name here among =
         let test = all_at (λ (p : Path). not (is_covered gone p) || is_among gone p) space may.closed (up ++ name ∷ []) here in
         sym (ap (λ (b : Bool). not b || is_among gone (up ++ name ∷ [])) (covered_by gone up (up ++ name ∷ []) among (is_within-append up (name ∷ [])))) ∙ test

@@ -1,18 +1,19 @@
 -- A rename leaves a namespace.
-use Rattle.std.proofs.Common.{◌≡◌, ◌≢◌, ℕ, Bool, true, false, List, [], ◌∷◌, ◌++◌, length, take, drop, None, is_some, IsSome, refl, sym, ap, ◌∙◌, subst, inl, inr, arith}
+use Rattle.std.proofs.Common.{◌≡◌, ◌≢◌, ℕ, Bool, true, false, ◌&&◌, cond, List, [], ◌∷◌, ◌++◌, length, take, drop, None, is_some, IsSome, refl, sym, ap, ◌∙◌, subst, inl, inr, arith}
 use Rattle.std.specs.List.{list_all}
 use Rattle.std.proofs.lemmas.Bool.{true≢false, and_parts, and_from, false_from_ne_true}
 use Rattle.std.proofs.lemmas.List.{drop-append-le, append_assoc, same_from_push}
 use Rattle.std.proofs.lemmas.List.Folds.{list_all-append}
 use Rattle.hops_base.specs.Name.{is_name}
-use Rattle.hops_base.specs.Path.{same_path, is_below, parent_of}
-use Rattle.name_space.specs.Namespace.{Namespace, Path, IsNamespace, entry_at, is_dir, is_within}
+use Rattle.hops_base.specs.Path.{same_path, parent_of}
+use Rattle.name_space.specs.Namespace.{Namespace, Path, IsNamespace, entry_at, exists, is_dir, is_within}
 use Rattle.name_space.specs.Plain.{last_name}
-use Rattle.name_space.specs.Rename.{moved, has_parent}
-use Rattle.name_space.specs.PathLaws.{same_path-self, is_within-rest, is_within-push, is_within-pop, is_within-long, not_within-push, not_within-root, not_within-apart, push-not_root}
-use Rattle.name_space.specs.NamespaceLaws.{names_at}
-use Rattle.name_space.specs.MoveLaws.{IsFree, moved-within, moved-gone, moved-stays, Rises-moved}
+use Rattle.name_space.specs.Rename.{moved, has_parent, target_of}
+use Rattle.name_space.proofs.PathLaws.{same_path-self, is_within-rest, is_within-push, is_within-pop, is_within-long, not_within-push, not_within-root, not_within-apart, push-not_root}
+use Rattle.name_space.proofs.NamespaceLaws.{names_at, none_from}
+use Rattle.name_space.proofs.MoveLaws.{IsFree, moved-within, moved-gone, moved-stays, Rises-moved}
 use Rattle.name_space.proofs.KeepLaws.{by_looks}
+use Rattle.name_space.proofs.CallCases.{Moves}
 
 module _ (space : Namespace) (is : IsNamespace space) (source up : Path) (name : List ℕ) (none : entry_at space (up ++ name ∷ []) ≡ None) (dir : is_dir (entry_at space up) ≡ true)
     (not_root : source ≢ []) (apart : is_within source (up ++ name ∷ []) ≡ false) (names : list_all is_name (up ++ name ∷ []) ≡ true) where
@@ -83,34 +84,44 @@ last_is_name : (first : List ℕ) (rest : Path) → list_all is_name (first ∷ 
 last_is_name first [] names = (and_parts (is_name first) true names).0
 last_is_name first (second ∷ rest) names = last_is_name second rest (and_parts (is_name first) (list_all is_name (second ∷ rest)) names).1
 
-pub last_name-is : (path : Path) → path ≢ [] → list_all is_name path ≡ true → is_name (last_name path) ≡ true
+last_name-is : (path : Path) → path ≢ [] → list_all is_name path ≡ true → is_name (last_name path) ≡ true
 last_name-is [] not_root names = absurd (not_root refl)
 last_name-is (first ∷ rest) not_root names = last_is_name first rest names
 
-module _ (space : Namespace) (is : IsNamespace space) (source destination : Path) (not_root : source ≢ []) (not_below : is_below destination source ≡ false) (differ : same_path source destination ≡ false) where
-  pub into_free : is_dir (entry_at space destination) ≡ true → same_path (destination ++ last_name source ∷ []) source ≡ false → entry_at space (destination ++ last_name source ∷ []) ≡ None → IsFree space source (destination ++ last_name source ∷ [])
-  into_free dir moves none = record {
-    up = destination;
-    name = last_name source;
-    is = refl;
-    dir = dir;
-    none = none;
-    apart = false_from_ne_true (is_within source (destination ++ last_name source ∷ [])) (λ within. elim (is_within-pop source destination (last_name source) within) [
-      | inl same ↦ true≢false (sym (same_path-self source) ∙ ap (λ (p : Path). same_path p source) same ∙ moves)
-      | inr inside ↦ true≢false (sym inside ∙ not_within-apart source destination not_below differ)
-    ]);
-  }
+-- the target of a rename consists of names where both paths do
+pub target_names : (space : Namespace) (source destination : Path) → source ≢ [] → list_all is_name source ≡ true → list_all is_name destination ≡ true → list_all is_name (target_of space source destination) ≡ true
+target_names space source destination not_root from to = by (is_dir (entry_at space destination))
+  where
+    by : (dir : Bool) → list_all is_name (cond dir (destination ++ last_name source ∷ []) destination) ≡ true
+    by true = list_all-append is_name destination (last_name source ∷ []) ∙ and_from (list_all is_name destination) (is_name (last_name source) && true) to (and_from (is_name (last_name source)) true (last_name-is source not_root from) refl)
+    by false = to
 
-  pub at_free : is_dir (entry_at space destination) ≡ false → has_parent space (parent_of destination) ≡ true → entry_at space destination ≡ None → IsFree space source destination
-  at_free no_dir parent none = by destination refl
-    where
-      by : (path : Path) → path ≡ destination → IsFree space source destination
-      by [] same = absurd (true≢false (sym is.root ∙ ap (λ (p : Path). is_dir (entry_at space p)) same ∙ no_dir))
-      by (first ∷ rest) same = record {
-        up = take (length rest) (first ∷ rest);
-        name = (split first rest).0;
-        is = (split first rest).1 ∙ same;
-        dir = ap (λ (p : Path). has_parent space (parent_of p)) same ∙ parent;
-        none = none;
-        apart = not_within-apart source destination not_below differ;
-      }
+-- the target of a rename that moves is free, in a directory that doesn't move along
+pub target_free : (space : Namespace) → IsNamespace space → (source destination : Path) → Moves space source destination → IsFree space source (target_of space source destination)
+target_free space is source destination moves = by (is_dir (entry_at space destination)) refl moves.elsewhere moves.free
+  where
+    at : is_dir (entry_at space destination) ≡ false → entry_at space destination ≡ None → (path : Path) → path ≡ destination → IsFree space source destination
+    at no_dir none [] same = absurd (true≢false (sym is.root ∙ ap (λ (p : Path). is_dir (entry_at space p)) same ∙ no_dir))
+    at no_dir none (first ∷ rest) same = record {
+      up = take (length rest) (first ∷ rest);
+      name = (split first rest).0;
+      is = (split first rest).1 ∙ same;
+      dir = ap (λ (p : Path). has_parent space (parent_of p)) same ∙ moves.parent;
+      none = none;
+      apart = not_within-apart source destination moves.not_below moves.differ;
+    }
+
+    by : (dir : Bool) → is_dir (entry_at space destination) ≡ dir → same_path (cond dir (destination ++ last_name source ∷ []) destination) source ≡ false → exists space (cond dir (destination ++ last_name source ∷ []) destination) ≡ false
+        → IsFree space source (cond dir (destination ++ last_name source ∷ []) destination)
+    by true dir elsewhere free = record {
+      up = destination;
+      name = last_name source;
+      is = refl;
+      dir = dir;
+      none = none_from (entry_at space (destination ++ last_name source ∷ [])) free;
+      apart = false_from_ne_true (is_within source (destination ++ last_name source ∷ [])) (λ within. elim (is_within-pop source destination (last_name source) within) [
+        | inl same ↦ true≢false (sym (same_path-self source) ∙ ap (λ (p : Path). same_path p source) same ∙ elsewhere)
+        | inr inside ↦ true≢false (sym inside ∙ not_within-apart source destination moves.not_below moves.differ)
+      ]);
+    }
+    by false dir elsewhere free = at dir (none_from (entry_at space destination) free) destination refl

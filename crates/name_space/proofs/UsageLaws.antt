@@ -8,10 +8,11 @@ use Rattle.std.proofs.lemmas.List.{append_assoc, append-nil, length-append}
 use Rattle.hops_base.specs.Path.{path_cmp, same_path}
 use Rattle.name_space.specs.declared.entry.Entry.{Entry}
 use Rattle.name_space.specs.Namespace.{Namespace, Path, IsNamespace, entry_at, is_within, below, children, bytes_of, used_names, used_bytes}
-use Rattle.name_space.specs.PathLaws.{paths_tell, same_path-self, same_path-is, same_path-not, is_within-self, is_within-append, is_within-rest, is_within-trans, is_within-long}
-use Rattle.name_space.specs.NamespaceLaws.{Rises, dir_above, dir-exists}
-use Rattle.name_space.specs.MoveLaws.{not_later}
-use Rattle.name_space.specs.SumLaws.{total, total-is, total-ones, total-zero, total-add, total-ap, total-filter, total_same}
+use Rattle.name_space.proofs.PathLaws.{paths_tell, same_path-self, same_path-is, same_path-not, is_within-self, is_within-append, is_within-rest, is_within-trans, is_within-long}
+use Rattle.name_space.specs.Namespace.{Rises}
+use Rattle.name_space.proofs.NamespaceLaws.{dir_above, dir-exists}
+use Rattle.name_space.proofs.MoveLaws.{not_later}
+use Rattle.name_space.proofs.SumLaws.{total, total-is, total-ones, total-zero, total-add, total-ap, total-filter, total_same}
 use Rattle.name_space.specs.Laws.{UsageIsASum}
 
 -- the two orders of a double sum

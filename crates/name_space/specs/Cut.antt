@@ -5,7 +5,7 @@ use Rattle.hops_base.specs.Path.{same_path, is_below}
 use Rattle.name_space.specs.declared.entry.Entry.{Entry}
 use Rattle.name_space.specs.Namespace.{Namespace, Path, entry_at, exists, is_dir, is_within}
 
--- the path is among these
+-- the path is one of these
 abbrev pub is_among : List Path → Path → Bool
 is_among paths path = list_any (same_path path) paths
 
@@ -13,7 +13,8 @@ is_among paths path = list_any (same_path path) paths
 abbrev pub is_covered : List Path → Path → Bool
 is_covered paths path = list_any (λ (top : Path). is_within top path) paths
 
--- these paths may go from below a path
+-- these paths may be cut off below a path: it is a directory other than the root; there is at least one of them; each
+-- stands once, is in the namespace and lies strictly below the path; and with each goes all that lies below it
 pub record MayCut (space : Namespace) (path : Path) (gone : List Path) : Type 0 where
   pub dir : is_dir (entry_at space path) ≡ true
   pub not_root : path ≢ []

@@ -17,24 +17,27 @@ moved_path source target path = if is_within source path then target ++ drop (le
 abbrev pub moved : Namespace → Path → Path → Namespace
 moved space source target = with_entries [] (map (λ (e : Path × Entry). (moved_path source target e.0, e.1)) space)
 
--- a directory is there for the path to stand in
+-- a path has a directory to stand in: its parent is one, or it is the root, which has no parent
 abbrev pub has_parent : Namespace → Option Path → Bool
 has_parent space None = true
 has_parent space (Some up) = is_dir (entry_at space up)
 
--- where the source goes: into the destination where that is a directory, else in its place
+-- the target of a rename: the path in the destination under the last name of the source where the destination is a
+-- directory, and else the destination itself
 abbrev pub target_of : Namespace → Path → Path → Path
 target_of space source destination = if is_dir (entry_at space destination) then destination ++ last_name source ∷ [] else destination
 
--- to this target: it is the source itself; it exists; a quota. Else all of the source moves
+-- a rename to this target changes nothing where the target is the source itself, and is refused where the target exists and
+-- by a quota, in this order; else all of the source moves
 abbrev pub rename_to : Namespace → Path → Path → Answered
 rename_to space source target =
     if same_path target source then told (Truth true) space
     else if exists space target then refused FileAlreadyExists space
     else unless (over_quota space (used_names space source) (used_bytes space source) (newly_above source target)) space (granted (moved space source target))
 
--- `rename`: the source is missing; it is the root, or the destination lies strictly below it; they are one; the
--- destination is a file; there is no directory for it to stand in. Else as the target says
+-- `rename` is refused where the source is missing, and where it is the root or the destination lies strictly below it;
+-- changes nothing where both are one path; is refused where the destination is a file, and where it has no directory to
+-- stand in, in this order; else the target decides
 abbrev pub rename : Namespace → Path → Path → Answered
 rename space source destination =
     if not (exists space source) then refused FileNotFound space

@@ -39,26 +39,33 @@ numbered calls (suc number) = slice_get calls number
 abbrev pub call_of : Script → ClientNo → ℕ → Option Call
 call_of script client number = option_and_then (λ (c : ClientCalls). numbered c.calls number) (client_of script client)
 
--- the most namenodes, clients and calls of a client
+-- the most namenodes of a script
 abbrev pub most_namenodes : ℕ
 most_namenodes = 16
 
+-- the most clients of a script
 abbrev pub most_clients : ℕ
 most_clients = 64
 
+-- the most calls of a client in a script
 abbrev pub most_calls : ℕ
 most_calls = 65536
 
--- what a script has of conflicts and beats where it says nothing of them
+-- the conflicts at which a call gives up, where a script doesn't say
 abbrev pub default_tries : ℕ
 default_tries = 10000
 
+-- the beats that a member may be behind, where a script doesn't say
 abbrev pub default_grace : ℕ
 default_grace = 64
 
--- from 1 to 1,000,000
+-- the most that a count of tries, of beats or of commits may be
+abbrev pub most_count : ℕ
+most_count = 1000000
+
+-- a count of tries, of beats or of commits: from 1 to the most
 abbrev pub is_count : ℕ → Bool
-is_count n = nat_le 1 n && nat_le n 1000000
+is_count n = nat_le 1 n && nat_le n most_count
 
 -- the client's user is one, and its calls are in number and in themselves within their ranges
 abbrev pub is_client : ClientCalls → Bool

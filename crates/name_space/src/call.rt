@@ -1,9 +1,18 @@
 //! What clients ask for.
 
-ghost use Rattle.std.specs.Prelude.{◌≡◌, IfOk};
-ghost use Rattle.name_space.specs.Call.{is_valid, is_quota, changes};
+ghost use Rattle.std.specs.Prelude.{◌≡◌, IfOk, codes};
+ghost use Rattle.name_space.specs.Call.{a_path, form_of, is_in_range, is_valid, is_quota, changes};
 
 use hops_base::{NoMemory, Path};
+
+/// The most bytes that one call adds to a file.
+pub const MOST_GROWN: u64 = 4_294_967_296;
+
+/// The greatest mode.
+pub const MOST_MODE: u16 = 511;
+
+/// The greatest quota, on names or on bytes.
+pub const MOST_QUOTA: u64 = 1_000_000_000_000_000;
 
 /// A call of a client, named after those of the Hadoop file system; `Grow`, `Close` and `Usage` are this
 /// project's own in this form.
@@ -44,6 +53,26 @@ pub enum OpKind {
 }
 
 impl Call {
+    /// Its word in scripts and reports.
+    pub fn word(&self) -> &'static str
+        ensures { result.now ≡ codes (form_of self.now).word }
+    {
+        match self {
+            Call::Mkdirs(_) => "mkdirs",
+            Call::Create(..) => "create",
+            Call::Append(_) => "append",
+            Call::Grow(..) => "grow",
+            Call::Close(_) => "close",
+            Call::Stat(_) => "stat",
+            Call::List(_) => "list",
+            Call::Delete(..) => "delete",
+            Call::Rename(..) => "rename",
+            Call::Chmod(..) => "chmod",
+            Call::SetQuota(..) => "set_quota",
+            Call::Usage(_) => "usage",
+        }
+    }
+
     /// Whether its numbers and paths are in their ranges: paths of at most 8,000 bytes and 1,000 names, 1
     /// to 4,294,967,296 bytes of one `Grow`, modes to 511, quotas of 1 to 1,000,000,000,000,000.
     pub fn is_valid(&self) -> bool
@@ -57,12 +86,12 @@ impl Call {
             | Call::Stat(path)
             | Call::List(path)
             | Call::Delete(path, _)
-            | Call::Usage(path) => path.is_short(),
-            Call::Grow(path, bytes) => path.is_short() && 1 <= *bytes && *bytes <= 4_294_967_296,
-            Call::Rename(source, target) => source.is_short() && target.is_short(),
-            Call::Chmod(path, mode) => path.is_short() && *mode <= 511,
+            | Call::Usage(path) => is_nameable(path),
+            Call::Grow(path, bytes) => is_nameable(path) && 1 <= *bytes && *bytes <= MOST_GROWN,
+            Call::Rename(source, target) => is_nameable(source) && is_nameable(target),
+            Call::Chmod(path, mode) => is_nameable(path) && *mode <= MOST_MODE,
             Call::SetQuota(path, names, bytes) => {
-                path.is_short() && is_quota(*names) && is_quota(*bytes)
+                is_nameable(path) && is_quota(*names) && is_quota(*bytes)
             }
         }
     }
@@ -95,11 +124,18 @@ impl Call {
     }
 }
 
+// Whether a call may name the path, which consists of names by its type.
+fn is_nameable(path: &Path) -> bool
+    ensures { result ≡ is_in_range (a_path path.now) }
+{
+    path.is_short()
+}
+
 fn is_quota(quota: Option<u64>) -> bool
     ensures { result ≡ is_quota quota }
 {
     match quota {
         None => true,
-        Some(limit) => 1 <= limit && limit <= 1_000_000_000_000_000,
+        Some(limit) => 1 <= limit && limit <= MOST_QUOTA,
     }
 }

@@ -5,6 +5,12 @@ ghost use Rattle.name_space.specs.Namespace.{bytes_of};
 
 use hops_base::{ClientNo, ItemList, Name, NoMemory, User};
 
+/// The mode of a new directory.
+pub const DIR_MODE: u16 = 493;
+
+/// The mode of a new file.
+pub const FILE_MODE: u16 = 420;
+
 /// What stands at a path.
 #[derive(Debug, Drop)]
 pub enum Entry {

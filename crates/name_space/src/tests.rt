@@ -1,4 +1,4 @@
-//! Worked values, and each call that may want memory, with ample memory.
+//! A range at its ends, and each call that may want memory, with ample memory.
 
 use crate::{Call, Entry, Exception, FileStatus, Listed, Listing, Reply, Why, copy_listing};
 use hops_base::{ClientNo, Name, Path, User};
@@ -14,10 +14,6 @@ fn user(rt: &impl Abort, alloc: Global) -> User {
     User::read(alloc, "ann").expect(rt, "a user")
 }
 
-fn assert_valid(rt: &impl Abort, call: Call, valid: bool) {
-    assert_eq!(rt; call.is_valid(), valid, "at {call:?}");
-}
-
 #[test]
 fn bytes_of_grow_are_in_their_range(rt: HostRuntime) {
     for (bytes, valid) in [
@@ -26,44 +22,9 @@ fn bytes_of_grow_are_in_their_range(rt: HostRuntime) {
         (4_294_967_296, true),
         (4_294_967_297, false),
     ] {
-        assert_valid(&rt, Call::Grow(path(&rt, rt.alloc()), bytes), valid);
+        let grow = Call::Grow(path(&rt, rt.alloc()), bytes);
+        assert_eq!(rt; grow.is_valid(), valid, "at {bytes}");
     }
-}
-
-#[test]
-fn modes_of_chmod_are_in_their_range(rt: HostRuntime) {
-    for (mode, valid) in [(511, true), (512, false)] {
-        assert_valid(&rt, Call::Chmod(path(&rt, rt.alloc()), mode), valid);
-    }
-}
-
-#[test]
-fn quotas_are_in_their_ranges(rt: HostRuntime) {
-    for (names, bytes, valid) in [
-        (None, None, true),
-        (Some(0), None, false),
-        (Some(1), Some(1_000_000_000_000_000), true),
-        (None, Some(1_000_000_000_000_001), false),
-    ] {
-        let path = path(&rt, rt.alloc());
-        assert_valid(&rt, Call::SetQuota(path, names, bytes), valid);
-    }
-}
-
-// Whether a call with a path of so many names is valid.
-fn is_valid_at(alloc: Global, names: u32) -> Result<bool, Fail> {
-    let mut text = String::new(alloc);
-    for _ in 0..names {
-        text.push_str("/a")?;
-    }
-    Ok(Call::Stat(Path::read_free(alloc, &text)?).is_valid())
-}
-
-#[test]
-fn paths_of_calls_are_short(rt: HostRuntime) -> Result<(), Fail> {
-    assert!(rt; is_valid_at(rt.alloc(), 1000)?);
-    assert!(rt; !is_valid_at(rt.alloc(), 1001)?);
-    Ok(())
 }
 
 // Asserts whether a copy of a call changes something.

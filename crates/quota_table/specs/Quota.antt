@@ -1,8 +1,6 @@
--- What a quota row answers, and quota rows as stored values.
-use Rattle.std.specs.Prelude.{◌≡◌, ℕ, Bool, true, false, Option, Some, None, refl}
-use Rattle.std.specs.Coded.{Coded, code_by, coded×, coded_ℕ, coded_option}
+-- What a quota row answers.
+use Rattle.std.specs.Prelude.{◌≡◌, ℕ, Bool, true, false, Option, Some, None}
 use Rattle.name_space.specs.Quota.{exceeds}
-use Rattle.row_store.specs.Table.{Table, coded_table}
 use Rattle.quota_table.specs.declared.quota.QuotaRow.{QuotaRow}
 use Rattle.quota_table.specs.declared.quota.Fit.{Fit}
 use Rattle.quota_table.specs.declared.quota.Fit.TheVariants.{Fits, Names, Bytes}
@@ -21,16 +19,3 @@ abbrev pub Answers : QuotaRow → ℕ → ℕ → Fit → Type 0
 Answers row names bytes Fits = (is_passed row.used_names names row.max_names ≡ false) × (is_passed row.used_bytes bytes row.max_bytes ≡ false)
 Answers row names bytes (Names used limit) = IsPassed row.used_names names row.max_names used limit
 Answers row names bytes (Bytes used limit) = (is_passed row.used_names names row.max_names ≡ false) × IsPassed row.used_bytes bytes row.max_bytes used limit
-
--- a quota row is stored as its fields
-abbrev pub coded_quota : Coded QuotaRow
-coded_quota = code_by
-    (Option ℕ × (Option ℕ × (ℕ × ℕ)))
-    (coded× (coded_option coded_ℕ) (coded× (coded_option coded_ℕ) (coded× coded_ℕ coded_ℕ)))
-    (λ q. (q.max_names, (q.max_bytes, (q.used_names, q.used_bytes))))
-    (λ p. record { max_names = p.0; max_bytes = p.1.0; used_names = p.1.1.0; used_bytes = p.1.1.1 })
-    (λ _. refl)
-
--- the table of quotas is stored as its rows and ready keys
-abbrev pub coded_quotas : Coded (Table QuotaRow)
-coded_quotas = coded_table coded_quota

@@ -4,6 +4,8 @@ ghost use Rattle.std.specs.Prelude.{◌≡◌, ◌+◌, ◌-◌, ◌<◌, ◌≤
 ghost use Rattle.name_space.specs.Quota.{exceeds};
 ghost use Rattle.quota_table.specs.Quota.{Answers};
 
+use row_store::Table;
+
 /// The row of a directory's quotas: the limits, which may be absent, and what is used of them. The directory
 /// counts itself among the names. After the HDFS quotas guide.
 #[derive(Clone, Copy, Debug, PartialEq, Eq)]
@@ -68,6 +70,9 @@ impl QuotaRow {
         self.used_bytes -= bytes;
     }
 }
+
+/// The quota rows by key, and the keys that are ready for one.
+pub type QuotaTable = Table<QuotaRow>;
 
 // So much more passes the limit.
 fn is_over(used: u64, more: u64, limit: u64) -> bool

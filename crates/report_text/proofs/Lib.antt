@@ -1,3 +1,10 @@
-pub mod NoFloat
-pub mod NoteLines
-pub mod WholeText
+mod Decoding
+mod NoFloat
+mod NoteBack
+mod NoteLines
+mod OneText
+mod ReplyBack
+pub mod ReportBack
+mod ScriptBack
+mod ValueTexts
+mod WholeText

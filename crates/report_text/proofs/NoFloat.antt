@@ -31,7 +31,7 @@ use Rattle.commit_log.specs.declared.note.Note.{Note}
 use Rattle.commit_log.specs.declared.note.Note.TheVariants.{Open, Took, Gave, Wrote, Did, Cut, Met, Gone}
 use Rattle.serde_json.specs.Written.{has_float}
 use Rattle.script_text.specs.Form.{path_data}
-use Rattle.script_text.specs.NoFloat.{no_float_in_map, no_float_in_optional, no_float_in_call, no_float_in_script}
+use Rattle.script_text.proofs.NoFloat.{no_float_in_map, no_float_in_optional, no_float_in_call, no_float_in_script}
 use Rattle.report_text.specs.Keys.{key_data, mode_data}
 use Rattle.report_text.specs.Replies.{status_data, listed_data, why_data, exception_data, reply_data}
 use Rattle.report_text.specs.Notes.{kind_data, work_data, cause_data, ended_data, note_data}

@@ -9,14 +9,14 @@ use Rattle.commit_log.specs.Answers.{calls_in}
 use Rattle.commit_log.specs.declared.answer.AnswerLine.{AnswerLine}
 use Rattle.commit_log.specs.declared.note.Note.{Note}
 
--- a script, the book of its run, what was answered to its calls, and the last namespace in path order
+-- a report: a script, the notes of its run, what was answered to its calls, and the last namespace in path order
 pub record Report : Type 0 where
   pub script : Script
   pub notes : List Note
   pub answers : List AnswerLine
   pub tree : List (List (List ℕ) × Entry)
 
--- each call of the script has one answer, by client and call, and the paths of the tree rise from the root
+-- the parts of a report fit together: each call of the script has one answer, by client and call, and the paths of the tree rise from the root
 pub record IsReport (report : Report) : Type 0 where
   pub answers : map call_answered report.answers ≡ calls_in report.script
   pub rises : entries.is_sorted path_cmp report.tree ≡ true

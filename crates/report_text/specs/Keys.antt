@@ -7,7 +7,7 @@ use Rattle.hops_base.specs.declared.key.Key.TheVariants.{Inode, Quota, Lease, Re
 use Rattle.serde_json.specs.Data.{Data, string}
 use Rattle.script_text.specs.Json.{whole, word, row}
 
--- a key is the word of its table and its fields
+-- the value of a key: an array of the word of its table and its fields
 abbrev pub key_data : Key → Data
 key_data (Inode parent name) = row (word "inode" ∷ whole parent.0 ∷ string name ∷ [])
 key_data (Quota id) = row (word "quota" ∷ whole id.0 ∷ [])
@@ -16,7 +16,7 @@ key_data (Reply client) = row (word "reply" ∷ whole client.0 ∷ [])
 key_data (Ongoing op) = row (word "ongoing" ∷ whole op.0 ∷ [])
 key_data Gate = row (word "gate" ∷ [])
 
--- a mode is its letter
+-- the value of a mode: the letter S where it is shared, X where it is exclusive
 abbrev pub mode_data : Mode → Data
 mode_data Shared = word "S"
 mode_data Exclusive = word "X"

@@ -1,8 +1,9 @@
-pub mod Keys
-pub mod Replies
-pub mod Entries
-pub mod Notes
 pub mod Answers
-pub mod Report
+pub mod Entries
+pub mod Examples
 pub mod IsReport
-pub mod Rows
+pub mod Keys
+pub mod Notes
+pub mod OneReport
+pub mod Replies
+pub mod Report

@@ -14,21 +14,21 @@ use Rattle.serde_json.specs.Data.{Data, boolean, string}
 use Rattle.script_text.specs.Json.{whole, optional, word, row, fields}
 use Rattle.script_text.specs.Form.{path_data}
 
--- a status has the kind, the mode and the owner, and of a file the length
+-- the value of a status: an object of the kind, the mode and the owner, and of a file the length
 abbrev pub status_data : FileStatus → Data
 status_data (Dir mode owner) = fields (("kind", word "dir") ∷ ("mode", whole mode) ∷ ("owner", string owner) ∷ [])
 status_data (File len mode owner) = fields (("kind", word "file") ∷ ("len", whole len) ∷ ("mode", whole mode) ∷ ("owner", string owner) ∷ [])
 
--- what is listed under this name with this status has both
+-- the value of a child of this name and this status: an object of the name and of all that the status has
 abbrev pub named_data : List ℕ → FileStatus → Data
 named_data name (Dir mode owner) = fields (("kind", word "dir") ∷ ("mode", whole mode) ∷ ("name", string name) ∷ ("owner", string owner) ∷ [])
 named_data name (File len mode owner) = fields (("kind", word "file") ∷ ("len", whole len) ∷ ("mode", whole mode) ∷ ("name", string name) ∷ ("owner", string owner) ∷ [])
 
--- an item of a listing
+-- the value of a child in a listing: that of its name and its status
 abbrev pub listed_data : Listed → Data
 listed_data listed = named_data listed.name listed.status
 
--- a why is its name
+-- the value of a cause that has no exception of its own: its name
 abbrev pub why_data : Why → Data
 why_data Descendant = word "Descendant"
 why_data BadParent = word "BadParent"
@@ -36,15 +36,15 @@ why_data RootFixed = word "RootFixed"
 why_data NotDirectory = word "NotDirectory"
 why_data NoQuota = word "NoQuota"
 
--- a refusal of this name, with nothing else said
+-- the value of a refusal that tells its name alone
 abbrev pub refused_data : String → Data
 refused_data name = fields (("refused", word name) ∷ [])
 
--- a refusal by a quota: whose it is, its limit, and what is used
+-- the value of a refusal of this name by a quota: the path that has the quota, the limit, and what is used
 abbrev pub exceeded_data : String → List (List ℕ) → ℕ → ℕ → Data
 exceeded_data name path used limit = fields (("at", path_data path) ∷ ("limit", whole limit) ∷ ("refused", word name) ∷ ("used", whole used) ∷ [])
 
--- a refusal
+-- the value of a refusal: an object of its name, and of the writer, the quota or the cause where it has one
 abbrev pub exception_data : Exception → Data
 exception_data FileNotFound = refused_data "FileNotFound"
 exception_data FileAlreadyExists = refused_data "FileAlreadyExists"
@@ -56,7 +56,7 @@ exception_data (NSQuotaExceeded path used limit) = exceeded_data "NSQuotaExceede
 exception_data (DSQuotaExceeded path used limit) = exceeded_data "DSQuotaExceeded" path used limit
 exception_data (IO why) = fields (("refused", word "IO") ∷ ("why", why_data why) ∷ [])
 
--- a reply
+-- the value of a reply: a truth value, or an object of the status, the listing, what is used, or the refusal
 abbrev pub reply_data : Reply → Data
 reply_data (Truth truth) = boolean truth
 reply_data (Status status) = status_data status

@@ -13,28 +13,28 @@ use Rattle.report_text.specs.Notes.{note_data}
 use Rattle.report_text.specs.Answers.{answer_data}
 use Rattle.report_text.specs.Entries.{place_data}
 
--- the value of the first line: the number of this form of reports, and the script
+-- the value of the first line: an object of the number of this form of reports, which is 1, and the script
 abbrev pub head_data : Script → Data
 head_data script = fields (("report", whole 1) ∷ ("script", script_data script) ∷ [])
 
--- the values of the lines of notes, of which the first has this number
+-- the values of the lines of notes, which are numbered from this number on
 abbrev pub notes_data : ℕ → List Note → List Data
 notes_data number notes = map (λ (p : ℕ × Note). note_data p.0 p.1) (enumerate_from number notes)
 
--- the value of the last line: how many notes, answers and paths there are
+-- the value of the last line: an array of the word `end`, and how many notes, answers and paths there are
 abbrev pub counts_data : ℕ → ℕ → ℕ → Data
 counts_data notes answers places = row (word "end" ∷ whole notes ∷ whole answers ∷ whole places ∷ [])
 
--- the values of all lines
+-- the values of the lines of a report: its head, its notes from number 0, its answers, its paths, and the counts of these
 abbrev pub report_data : Script → List Note → List AnswerLine → List (List (List ℕ) × Entry) → List Data
 report_data script notes answers tree =
     (head_data script ∷ notes_data 0 notes)
     ++ (map answer_data answers ++ (map place_data tree ++ counts_data (length notes) (length answers) (length tree) ∷ []))
 
--- the line that a value makes
+-- the line of a value: its compact text and a newline
 abbrev pub line_of : Data → List ℕ
 line_of value = compact_text value ++ 10 ∷ []
 
--- the bytes of a report of a script, the book's notes, the answers, and the last namespace in path order
+-- the text of a report of a script, a book's notes, answers and a namespace in path order: its lines, one after another
 abbrev pub report_text : Script → List Note → List AnswerLine → List (List (List ℕ) × Entry) → List ℕ
 report_text script notes answers tree = flat_map line_of (report_data script notes answers tree)

@@ -1,7 +1,8 @@
 //! Reports and their texts.
 //!
-//! It stands on `hops_base`, `name_space`, `commit_log`, `script_text` and `serde_json`. It says which
-//! bytes are the report of a script, a book, answers and a namespace.
+//! It stands on `hops_base`, `name_space`, `commit_log`, `script_text` and `serde_json`, and its proofs on
+//! `json` too. It says which bytes are the report of a script, a book, answers and a namespace, and shows
+//! that these bytes are of no other report.
 //!
 //! It promises that [`report_of`] and [`write_report`] give those very bytes, for every kind of note, key,
 //! cause, answer, reply, refusal and entry, or want memory; and that a [`Report`] has one answer for each
@@ -11,6 +12,7 @@
 
 mod answer_form;
 mod entry_form;
+pub mod examples;
 mod key_form;
 pub mod laws;
 mod lines;

@@ -1,4 +1,9 @@
+pub mod ChildLaws
 pub mod ChildLemmas
+pub mod ChildNames
+pub mod EditLemmas
+pub mod ReadyLaws
 pub mod ReadyLemmas
+pub mod Rising
 pub mod SlotLemmas
 pub mod TableLemmas

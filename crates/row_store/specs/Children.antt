@@ -9,7 +9,7 @@ use Rattle.hops_base.specs.declared.ids.InodeId.{InodeId}
 use Rattle.hops_base.specs.declared.key.Key.{Key}
 use Rattle.hops_base.specs.declared.key.Key.TheVariants.{Inode, Quota, Lease, Reply, Ongoing, Gate}
 use Rattle.hops_base.specs.Key.{key_cmp}
-use Rattle.hops_base.specs.Name.{same_name}
+use Rattle.std.specs.Prelude.{bytes_eq}
 
 -- the name in an inode's key below the parent
 abbrev pub name_below : InodeId → Key → Option (List ℕ)
@@ -32,4 +32,4 @@ module _ {R : Type 0} where
   -- the names rise strictly by their bytes, and are those of the rows below the parent
   pub record IsChildren (rows : map.FinMap key_cmp R) (parent : InodeId) (names : List (List ℕ)) : Type 0 where
     pub rising : IsStrictlySortedBy (slice_cmp nat_cmp) names
-    pub members : (name : List ℕ) → list_any (same_name name) names ≡ map.contains_key rows (Inode parent name)
+    pub members : (name : List ℕ) → list_any (bytes_eq name) names ≡ map.contains_key rows (Inode parent name)

@@ -6,7 +6,7 @@ ghost use Rattle.std.specs.List.{list_any};
 ghost use Rattle.std.specs.List.Sorted.{IsStrictlySortedBy};
 ghost use Rattle.std.specs.Ordering.{nat_cmp};
 ghost use Rattle.std.specs.Cmp.Lexicographic.{slice_cmp};
-ghost use Rattle.hops_base.specs.Name.{same_name};
+ghost use Rattle.std.specs.Prelude.{bytes_eq};
 ghost use Rattle.row_store.specs.Slots.{name_in, is_child};
 
 use crate::slots::Slot;
@@ -31,7 +31,7 @@ pub fn names_below<R>(
     parent: InodeId,
 ) -> Result<Vec<Name>, NoMemory>
     ensures rising { IfOk result (λ names. IsStrictlySortedBy (slice_cmp nat_cmp) names.items) }
-    ensures members { IfOk result (λ names. (q : List ℕ) → list_any (same_name q) names.items ≡ list_any (is_child parent q) slots.now) }
+    ensures members { IfOk result (λ names. (q : List ℕ) → list_any (bytes_eq q) names.items ≡ list_any (is_child parent q) slots.now) }
 {
     let mut names: BTreeSet<Name> = BTreeSet::new(alloc);
     for slot in slots {
@@ -54,7 +54,7 @@ fn name_in<R>(slot: &Slot<R>, parent: InodeId) -> Option<&Name>
 
 // Adds a copy of the name to the set.
 fn add_name(names: &mut BTreeSet<Name>, name: &Name) -> Result<(), NoMemory>
-    ensures ok { OnOk result ((q : List ℕ) → sorted.contains (slice_cmp nat_cmp) names.new q ≡ (same_name q name.now || sorted.contains (slice_cmp nat_cmp) names.old q)) }
+    ensures ok { OnOk result ((q : List ℕ) → sorted.contains (slice_cmp nat_cmp) names.new q ≡ (bytes_eq q name.now || sorted.contains (slice_cmp nat_cmp) names.old q)) }
 {
     let name = name.copy()?;
     match names.insert(name) {

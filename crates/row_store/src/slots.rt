@@ -3,8 +3,9 @@
 ghost use Rattle.std.specs.Prelude.{◌≡◌, ◌++◌, ◌∷◌, [], None, Some, true, is_some, MatchOption, OnOk, OnErr, option_copied};
 ghost use Rattle.std.specs.List.{position_from};
 ghost use Rattle.std.specs.Map.{lookup, set_value, remove_entry};
+ghost use Rattle.std.specs.Option.{option_flatten};
 ghost use Rattle.hops_base.specs.Key.{same_key};
-ghost use Rattle.row_store.specs.Slots.{is_slot_of, row_in, IsSlotAt};
+ghost use Rattle.row_store.specs.Slots.{is_slot_of, IsSlotAt};
 
 use hops_base::{Key, NoMemory};
 use std::mem;
@@ -14,7 +15,7 @@ pub type Slot<R> = (Key, Option<R>);
 
 /// The row of a key.
 pub fn row_of<'a, R>(slots: &'a [Slot<R>], key: &Key) -> Option<&'a R>
-    ensures { option_copied result ≡ row_in (lookup (same_key key.now) slots.now) }
+    ensures { option_copied result ≡ option_flatten (lookup (same_key key.now) slots.now) }
 {
     match index_of(slots, key) {
         Some(at) => slots[at].1.as_ref(),
@@ -43,7 +44,7 @@ pub fn fill<R>(slots: &mut Vec<Slot<R>>, key: &Key, row: R) -> Option<R>
 
 /// Removes the slot of a key, and gives back its row. None where there was no row.
 pub fn clear<R>(slots: &mut Vec<Slot<R>>, key: &Key) -> Option<R>
-    ensures row { result ≡ row_in (lookup (same_key key.now) slots.old.items) }
+    ensures row { result ≡ option_flatten (lookup (same_key key.now) slots.old.items) }
     ensures slots { slots.new.items ≡ remove_entry (same_key key.now) slots.old.items }
 {
     match index_of(slots, key) {

@@ -1,20 +1,19 @@
 -- What is generated is within its ranges.
-use Rattle.std.proofs.Common.{◌≡◌, ◌≤◌, ◌<◌, ℕ, suc, zero, ◌+◌, ◌*◌, ◌%◌, ◌==◌, Bool, true, false, ◌&&◌, List, [], ◌∷◌, ◌++◌, map, length, get_or, Some, None, codes, decimal, refl, ap, arith, le-leb, inl, inr, length-append, mod-lt}
+use Rattle.std.proofs.Common.{◌≡◌, ◌≤◌, ◌<◌, ℕ, suc, zero, ◌+◌, ◌*◌, ◌%◌, ◌==◌, Bool, true, false, ◌&&◌, List, [], ◌∷◌, ◌++◌, map, length, get_or, Some, None, codes, decimal, refl, ap, arith, le-leb, zero-le, inl, inr, length-append, mod-lt}
 use Rattle.std.specs.Fmt.{digits}
+use Rattle.std.specs.Str.{chars, is_utf8}
 use Rattle.std.specs.List.{AllByRecursion, range_with_len, list_all, IsDistinct}
 use Rattle.std.specs.Cmp.{first_so, second_so}
-use Rattle.std.proofs.lemmas.Bool.{cases_eq, eqb-true}
+use Rattle.std.proofs.lemmas.Bool.{cases_eq, eqb-true, and_from}
 use Rattle.std.proofs.lemmas.List.FromFn.{length-map-range_with_len}
-use Rattle.hops_base.specs.Path.{is_short, joined, text_of}
+use Rattle.hops_base.specs.Path.{most_path_names, most_path_bytes, is_short, joined, text_of}
 use Rattle.hops_base.specs.User.{is_user}
 use Rattle.hops_base.specs.Name.{is_name}
-use Rattle.name_space.specs.Call.{is_valid}
-use Rattle.name_space.specs.Script.{ClientCalls, IsScript, is_client}
+use Rattle.name_space.specs.Call.{Argument, a_path, a_truth, a_number, a_quota, most_grown, most_mode, most_quota, is_in_range, is_valid}
+use Rattle.name_space.specs.Script.{IsScript, most_clients, most_calls, is_client}
 use Rattle.name_space.specs.declared.call.Call.{Call}
 use Rattle.name_space.specs.declared.call.Call.TheVariants as call
-use Rattle.script_text.specs.Grammar.{IsNameable, NamesPaths, CanName}
-use Rattle.script_text.proofs.Nameable.{nameable}
-use Rattle.script_text.specs.Generator.{Drawing, next_state, times, made_of, any_below, any_to, any_name, any_path, kinds, any_call, first_state, user_of, client_generated, generated, made_of_both}
+use Rattle.script_text.specs.Generator.{most_generated_calls, Drawing, next_state, times, made_of, any_below, any_to, any_truth, any_name, any_path, kinds, any_call, first_state, user_generated, client_generated, generated, made_of_both}
 
 -- ---- finitely many numbers
 
@@ -60,7 +59,7 @@ text_short [] short = omega arith
 text_short (name ∷ names) short = short
 
 -- a path that is drawn is short
-pub path_short : (state : ℕ) → is_short (any_path state).0 ≡ true
+path_short : (state : ℕ) → is_short (any_path state).0 ≡ true
 path_short state =
     let names = 1 + next_state state % 3 in
     let few : names ≤ 3 = omega arith in
@@ -68,9 +67,27 @@ path_short state =
     let count = length-times any_name names (next_state state) in
     let bytes = length-joined names (next_state state) in
     let text = text_short path (omega arith) in
-    rw (le-leb (length path) 1000 (omega arith), le-leb (length (text_of path)) 8000 (omega arith)) refl
+    rw (le-leb (length path) most_path_names (omega arith), le-leb (length (text_of path)) most_path_bytes (omega arith)) refl
+
+name_good : holds_below (λ digit. is_name (codes "n" ++ decimal digit)) 6 ≡ true
+unfolding digits is_utf8 chars lib.Utf8.encode
+name_good = refl
+
+names_good : (n state : ℕ) → list_all is_name (times n any_name state).0 ≡ true
+names_good zero state = refl
+names_good (suc n) state =
+    let less : next_state state % 6 < 6 = omega arith in
+    and_from _ _ (holds_at (λ digit. is_name (codes "n" ++ decimal digit)) 6 (next_state state % 6) name_good less) (names_good n (any_name state).1)
+
+-- a path that is drawn consists of names too
+path_good : (state : ℕ) → is_in_range (a_path (any_path state).0) ≡ true
+path_good state = and_from _ _ (names_good (1 + next_state state % 3) (next_state state)) (path_short state)
 
 -- ---- calls
+
+-- a path that is drawn, and other arguments in their ranges
+with_path : (state : ℕ) (rest : List Argument) → list_all is_in_range rest ≡ true → list_all is_in_range (a_path (any_path state).0 ∷ rest) ≡ true
+with_path state rest good = and_from _ _ (path_good state) good
 
 -- what is drawn so is a valid call
 abbrev IsValidDrawing : Drawing Call → Type 0
@@ -80,30 +97,39 @@ IsValidDrawing each = (state : ℕ) → is_valid (each state).0 ≡ true
 to_range : (n state : ℕ) → 0 < n → (1 ≤ (any_to n state).0) × ((any_to n state).0 ≤ n)
 to_range n state some = let less = mod-lt (next_state state) some in (omega arith, omega arith)
 
-two_pass : (a b : Bool) → a ≡ true → b ≡ true → (a && b) ≡ true
-two_pass true b e f = f
-two_pass false b e f = e
-
 kinds_valid : AllByRecursion IsValidDrawing kinds
-kinds_valid = (path_short, (path_short, (path_short, (path_short, (path_short, (path_short, (grow, (path_short, (path_short, (path_short, (path_short, (path_short, (path_short, (rename, (chmod, (quota, tt))))))))))))))))
+kinds_valid = (alone, (alone, (alone, (truth, (truth, (alone, (grow, (alone, (alone, (alone, (alone, (all, (children, (rename, (chmod, (quota, tt))))))))))))))))
   where
+    alone : (state : ℕ) → list_all is_in_range (a_path (any_path state).0 ∷ []) ≡ true
+    alone state = with_path state [] refl
+
+    truth : (state : ℕ) → list_all is_in_range (a_path (any_path state).0 ∷ a_truth (any_truth (any_path state).1).0 ∷ []) ≡ true
+    truth state = with_path state (a_truth (any_truth (any_path state).1).0 ∷ []) refl
+
+    all : (state : ℕ) → list_all is_in_range (a_path (any_path state).0 ∷ a_truth true ∷ []) ≡ true
+    all state = with_path state (a_truth true ∷ []) refl
+
+    children : (state : ℕ) → list_all is_in_range (a_path (any_path state).0 ∷ a_truth false ∷ []) ≡ true
+    children state = with_path state (a_truth false ∷ []) refl
+
     grow : (state : ℕ) → is_valid ((made_of_both call.Grow any_path (any_to 1000)) state).0 ≡ true
     grow state =
         let range = to_range 1000 (any_path state).1 (omega arith) in
-        rw (path_short state, le-leb 1 _ range.0, le-leb (any_to 1000 (any_path state).1).0 4294967296 (omega (arith, range.1))) refl
+        with_path state (a_number 1 most_grown (any_to 1000 (any_path state).1).0 ∷ []) (rw (le-leb 1 _ range.0, le-leb (any_to 1000 (any_path state).1).0 most_grown (omega (arith, range.1))) refl)
 
     rename : (state : ℕ) → is_valid ((made_of_both call.Rename any_path any_path) state).0 ≡ true
-    rename state = two_pass _ _ (path_short state) (path_short (any_path state).1)
+    rename state = with_path state (a_path (any_path (any_path state).1).0 ∷ []) (alone (any_path state).1)
 
     chmod : (state : ℕ) → is_valid ((made_of_both call.Chmod any_path (any_below 512)) state).0 ≡ true
     chmod state =
+        let mode = (any_below 512 (any_path state).1).0 in
         let less : next_state (any_path state).1 % 512 < 512 = omega arith in
-        two_pass _ _ (path_short state) (le-leb _ 511 (omega arith))
+        with_path state (a_number 0 most_mode mode ∷ []) (rw (le-leb 0 mode zero-le, le-leb mode most_mode (omega arith)) refl)
 
     quota : (state : ℕ) → is_valid ((made_of_both (λ path names. call.SetQuota path (Some names) None) any_path (any_to 50)) state).0 ≡ true
     quota state =
         let range = to_range 50 (any_path state).1 (omega arith) in
-        rw (path_short state, le-leb 1 _ range.0, le-leb (any_to 50 (any_path state).1).0 1000000000000000 (omega (arith, range.1))) refl
+        with_path state (a_quota (Some (any_to 50 (any_path state).1).0) ∷ a_quota None ∷ []) (rw (le-leb 1 _ range.0, le-leb (any_to 50 (any_path state).1).0 most_quota (omega (arith, range.1))) refl)
 
 -- what holds of each of these drawings and of another holds of the one at a place, or else of the other
 one_holds : (P : Drawing Call → Type 0) (each : List (Drawing Call)) (i : ℕ) (other : Drawing Call) → AllByRecursion P each → P other → P (get_or each i other)
@@ -112,31 +138,31 @@ one_holds P (first ∷ rest) zero other all holds = all.0
 one_holds P (first ∷ rest) (suc i) other all holds = one_holds P rest i other all.1 holds
 
 call_valid : IsValidDrawing any_call
-call_valid state = one_holds IsValidDrawing kinds (next_state state % 16) (made_of call.Mkdirs any_path) kinds_valid path_short (next_state state)
+call_valid state = one_holds IsValidDrawing kinds (next_state state % 16) (made_of call.Mkdirs any_path) kinds_valid (λ s. with_path s [] refl) (next_state state)
 
 calls_valid : (n state : ℕ) → list_all is_valid (times n any_call state).0 ≡ true
 calls_valid zero state = refl
-calls_valid (suc n) state = two_pass _ _ (call_valid state) (calls_valid n (any_call state).1)
+calls_valid (suc n) state = and_from _ _ (call_valid state) (calls_valid n (any_call state).1)
 
 -- ---- clients
 
-users_good : holds_below (λ client. is_user (user_of client)) 64 ≡ true
+users_good : holds_below (λ client. is_user (user_generated client)) most_clients ≡ true
 unfolding digits
 users_good = refl
 
-client_good : (seed calls client : ℕ) → client < 64 → calls ≤ 5000 → is_client (client_generated seed calls client) ≡ true
+client_good : (seed calls client : ℕ) → client < most_clients → calls ≤ most_generated_calls → is_client (client_generated seed calls client) ≡ true
 client_good seed calls client few short =
-    let user = holds_at (λ n. is_user (user_of n)) 64 client users_good few in
+    let user = holds_at (λ n. is_user (user_generated n)) most_clients client users_good few in
     let state = first_state seed client in
     let count = length-times any_call calls state in
-    two_pass _ _ (two_pass _ _ user (le-leb (length (times calls any_call state).0) 65536 (omega arith))) (calls_valid calls state)
+    and_from _ _ (and_from _ _ user (le-leb (length (times calls any_call state).0) most_calls (omega arith))) (calls_valid calls state)
 
-clients_good : (seed calls first n : ℕ) → first + n ≤ 64 → calls ≤ 5000 → list_all is_client (map (client_generated seed calls) (range_with_len first n)) ≡ true
+clients_good : (seed calls first n : ℕ) → first + n ≤ most_clients → calls ≤ most_generated_calls → list_all is_client (map (client_generated seed calls) (range_with_len first n)) ≡ true
 clients_good seed calls first zero few short = refl
-clients_good seed calls first (suc n) few short = two_pass _ _ (client_good seed calls first (omega arith) short) (clients_good seed calls (first + 1) n (omega arith) short)
+clients_good seed calls first (suc n) few short = and_from _ _ (client_good seed calls first (omega arith) short) (clients_good seed calls (first + 1) n (omega arith) short)
 
 -- the script is within its ranges
-pub generated_good : (seed clients calls : ℕ) → 1 ≤ clients → clients ≤ 64 → calls ≤ 5000 → IsScript (generated seed clients calls)
+pub generated_good : (seed clients calls : ℕ) → 1 ≤ clients → clients ≤ most_clients → calls ≤ most_generated_calls → IsScript (generated seed clients calls)
 unfolding IsDistinct
 generated_good seed clients calls some few short =
     record {
@@ -146,44 +172,3 @@ generated_good seed clients calls some few short =
       tries = refl;
       grace = refl;
     }
-
--- ---- what calls name
-
-name_good : holds_below (λ digit. is_name (codes "n" ++ decimal digit)) 6 ≡ true
-unfolding digits
-name_good = refl
-
-names_good : (n state : ℕ) → list_all is_name (times n any_name state).0 ≡ true
-names_good zero state = refl
-names_good (suc n) state =
-    let less : next_state state % 6 < 6 = omega arith in
-    two_pass _ _ (holds_at (λ digit. is_name (codes "n" ++ decimal digit)) 6 (next_state state % 6) name_good less) (names_good n (any_name state).1)
-
-path_named : (state : ℕ) → IsNameable (any_path state).0
-path_named state = nameable (any_path state).0 (names_good (1 + next_state state % 3) (next_state state)) (path_short state)
-
--- what is drawn so is a call that can name its paths
-abbrev IsNamingDrawing : Drawing Call → Type 0
-IsNamingDrawing each = (state : ℕ) → NamesPaths (each state).0
-
-kinds_naming : AllByRecursion IsNamingDrawing kinds
-kinds_naming = (one, (one, (one, (one, (one, (one, (one, (one, (one, (one, (one, (one, (one, (two, (one, (one, tt))))))))))))))))
-  where
-    one : (state : ℕ) → AllByRecursion IsNameable ((any_path state).0 ∷ [])
-    one state = (path_named state, tt)
-
-    two : (state : ℕ) → AllByRecursion IsNameable ((any_path state).0 ∷ (any_path (any_path state).1).0 ∷ [])
-    two state = (path_named state, (path_named (any_path state).1, tt))
-
-calls_naming : (n state : ℕ) → AllByRecursion NamesPaths (times n any_call state).0
-calls_naming zero state = tt
-calls_naming (suc n) state = (one_holds IsNamingDrawing kinds (next_state state % 16) (made_of call.Mkdirs any_path) kinds_naming (λ s. (path_named s, tt)) (next_state state), calls_naming n (any_call state).1)
-
--- the clients from one on
-clients_naming : (seed calls first n : ℕ) → AllByRecursion (λ (client : ClientCalls). AllByRecursion NamesPaths client.calls) (map (client_generated seed calls) (range_with_len first n))
-clients_naming seed calls first zero = tt
-clients_naming seed calls first (suc n) = (calls_naming calls (first_state seed first), clients_naming seed calls (first + 1) n)
-
--- each call of the script can name its paths
-pub generated_naming : (seed clients calls : ℕ) → CanName (generated seed clients calls)
-generated_naming seed clients calls = clients_naming seed calls 0 clients

@@ -1,13 +1,17 @@
+mod Arguments
+mod Calls
 mod Canonical
-mod FormsExact
 mod Exact
-mod OneScript
-mod ViewLemmas
-mod Reading
-mod Values
+mod Forms
 mod Generated
 mod GeneratedScripts
+pub mod Literals
+pub mod NoFloat
+mod OneScript
 mod ReadBack
-mod WrittenText
+mod Reading
 pub mod ScriptLaws
-mod Nameable
+mod ValueFacts
+mod Values
+mod ViewLemmas
+mod WrittenText

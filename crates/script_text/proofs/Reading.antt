@@ -1,32 +1,27 @@
 -- What readers of parts of a script answer.
-use Rattle.std.proofs.Common.{◌≡◌, ℕ, zero, suc, take, not, ◌==◌, if◌then◌else◌, ◌+◌, ◌<◌, ◌≤◌, le-leb, length, drop, get_or, ◌&&◌, nat_le, Bool, true, false, List, [], ◌∷◌, map, filter_map, Option, Some, None, Result, Ok, Err, option_and_then, option_map, find, is_some, ◌++◌, unwrap_or, refl, sym, ap, subst, ◌∙◌}
-use Rattle.std.specs.List.{list_all, list_any, enumerate_from}
-use Rattle.std.specs.Option.{option_map_or, option_or}
-use Rattle.hops_base.specs.declared.ids.NodeNo.{NodeNo}
-use Rattle.name_space.specs.Script.{Script, IsScript, is_stop}
-use Rattle.script_text.specs.Form.{stop_data}
+use Rattle.std.proofs.Common.{◌≡◌, ℕ, zero, suc, take, not, if◌then◌else◌, ◌+◌, ◌<◌, ◌≤◌, le-leb, length, drop, get_or, nat_le, true, List, [], ◌∷◌, map, Option, Some, None, Result, Ok, Err, option_and_then, option_map, find, is_some, ◌++◌, unwrap_or, refl, sym, ap, subst, ◌∙◌}
+use Rattle.std.specs.List.{enumerate_from}
+use Rattle.std.specs.Option.{option_or}
 use Rattle.std.specs.Result.{IsErr, IsErrAnd}
-use Rattle.std.specs.Cmp.Lexicographic.{pointwise}
+use Rattle.std.proofs.lemmas.List.{drop_more, take_more, map-append, length-map}
 use Rattle.hops_base.specs.First.{first_some}
-use Rattle.hops_base.specs.Path.{path_fault}
-use Rattle.name_space.specs.declared.call.Call.{Call}
-use Rattle.name_space.specs.declared.call.Call.TheVariants as call
+use Rattle.hops_base.specs.declared.ids.NodeNo.{NodeNo}
+use Rattle.name_space.specs.Script.{Script, IsScript, most_clients, most_calls, default_tries, default_grace}
 use Rattle.serde_json.specs.Data.{Data, boolean, array, Items, Members}
-use Rattle.serde_json.specs.Find.{as_array, as_str}
+use Rattle.serde_json.specs.Find.{as_array}
 use Rattle.serde_json.specs.View.{view}
 use Rattle.serde_json.specs.declared.value.Value.{Value}
-use Rattle.std.proofs.lemmas.List.{drop_more, take_more, map-append, length-map}
-use Rattle.script_text.proofs.OneScript.{values_of-items_of, one_of_members}
 use Rattle.script_text.specs.declared.fault.ScriptFault.{ScriptFault}
 use Rattle.script_text.specs.declared.fault.ScriptError.{ScriptError}
 use Rattle.script_text.specs.declared.fault.ScriptError.TheVariants.{Bad, NoMemory}
-use Rattle.script_text.specs.Json.{whole, row, values_of, at_key, as_whole, optional}
-use Rattle.script_text.specs.CallForms.{has_shape, has_form, refused_path, has_range, behind_name, form_named, named_by}
-use Rattle.script_text.specs.Faults.{fault, unless, members_fault, settings_fault, clients_fault, calls_fault, has_known_keys, has_version, has_namenodes, may_count, may_persist, namenodes_in, stops_fault, bad_stop, call_fault, client_fault, stop_of, stops_node, is_next_stop}
-use Rattle.script_text.specs.Grammar.{SaysCall, Says}
-use Rattle.script_text.specs.Reading.{IsReadOf, stop_after, HasClients, call_made}
-use Rattle.script_text.proofs.FormsExact.{unless-none, option_or-none}
-use Rattle.script_text.proofs.Exact.{stop_is, members_exact, some_call_said, is_array, items_of-values_of}
+use Rattle.script_text.specs.Json.{whole, row, values_of, at_key, as_whole}
+use Rattle.script_text.specs.Form.{stop_data}
+use Rattle.script_text.specs.Faults.{fault, fault_unless, members_fault, settings_fault, clients_fault, calls_fault, has_known_keys, has_version, has_namenodes, may_count, may_persist, namenodes_in, stops_fault, bad_stop, call_fault, client_fault, stop_after}
+use Rattle.script_text.specs.Grammar.{HasClients, Says}
+use Rattle.script_text.specs.Reading.{IsReadOf}
+use Rattle.script_text.proofs.ValueFacts.{unless-none, option_or-none, is_array, values_of-items_of, items_of-values_of}
+use Rattle.script_text.proofs.OneScript.{one_of_members}
+use Rattle.script_text.proofs.Exact.{members_exact}
 
 -- the answer is this error
 pub error_is : {T : Type 0} (r : Result T ScriptError) (told : ScriptError) → IsErr r × IsErrAnd r (λ e. e ≡ told) → r ≡ Err told
@@ -82,78 +77,22 @@ array_there (Some value) values h = among (as_array value) refl h
     among None e f = cc
     among (Some items) e f = ap Some (is_array value items e ∙ ap array (sym (items_of-values_of items)) ∙ ap row (sym (ap (λ (p : Option (List Data)). unwrap_or p []) f)))
 
+-- with nothing behind it, it is the first
+first_alone : (o : Option ScriptFault) → option_or o None ≡ o
+first_alone None = refl
+first_alone (Some f) = refl
+
 -- the fault of the calls at their key
-pub calls_fault_is : (at : ℕ) (ms : Members) (values : List Data) → at_key "calls" ms ≡ Some (row values) → nat_le (length values) 65536 ≡ true
+pub calls_fault_is : (at : ℕ) (ms : Members) (values : List Data) → at_key "calls" ms ≡ Some (row values) → nat_le (length values) most_calls ≡ true
     → first_some (map (call_fault at) (enumerate_from 1 values)) ≡ calls_fault at ms
 calls_fault_is at ms values there few = sym (rw (there, values_of-items_of values, few) (first_alone (first_some (map (call_fault at) (enumerate_from 1 values)))))
-  where
-    first_alone : (o : Option ScriptFault) → option_or o None ≡ o
-    first_alone None = refl
-    first_alone (Some f) = refl
 
 -- the fault of the clients at theirs
-pub clients_fault_is : (ms : Members) (values : List Data) → at_key "clients" ms ≡ Some (row values) → nat_le (length values) 64 ≡ true
+pub clients_fault_is : (ms : Members) (values : List Data) → at_key "clients" ms ≡ Some (row values) → nat_le (length values) most_clients ≡ true
     → first_some (map client_fault (enumerate_from 0 values)) ≡ clients_fault ms
 clients_fault_is ms values there few = sym (rw (there, values_of-items_of values, few) (first_alone (first_some (map client_fault (enumerate_from 0 values)))))
-  where
-    first_alone : (o : Option ScriptFault) → option_or o None ≡ o
-    first_alone None = refl
-    first_alone (Some f) = refl
-
--- ---- calls
-
--- the call of a name and the values behind it, where both are told from a value
-made_of : Data → Option Call
-made_of value = option_and_then (λ name. call_made name (behind_name value)) (named_by value)
-
--- a number or null is read back
-whole-optional : (limit : Option ℕ) → as_whole (optional limit) ≡ limit
-whole-optional None = refl
-whole-optional (Some n) = refl
-
--- it is the call that the value says
-made_says : (value : Data) (c : Call) → SaysCall value c → made_of value ≡ Some c
-unfolding made_of
-made_says value (call.Mkdirs path) s = ap made_of s.0 ∙ ap (λ p. Some (call.Mkdirs p)) s.1.0
-made_says value (call.Create path overwrite) s = ap made_of s.0 ∙ ap (λ p. Some (call.Create p overwrite)) s.1.0
-made_says value (call.Append path) s = ap made_of s.0 ∙ ap (λ p. Some (call.Append p)) s.1.0
-made_says value (call.Grow path bytes) s = ap made_of s.0 ∙ ap (λ p. Some (call.Grow p bytes)) s.1.0
-made_says value (call.Close path) s = ap made_of s.0 ∙ ap (λ p. Some (call.Close p)) s.1.0
-made_says value (call.Stat path) s = ap made_of s.0 ∙ ap (λ p. Some (call.Stat p)) s.1.0
-made_says value (call.List path) s = ap made_of s.0 ∙ ap (λ p. Some (call.List p)) s.1.0
-made_says value (call.Delete path recursive) s = ap made_of s.0 ∙ ap (λ p. Some (call.Delete p recursive)) s.1.0
-made_says value (call.Rename source target) s = ap made_of s.0 ∙ (λ i. Some (call.Rename (s.1.0 i) (s.1.1.0 i)))
-made_says value (call.Chmod path mode) s = ap made_of s.0 ∙ ap (λ p. Some (call.Chmod p mode)) s.1.0
-made_says value (call.SetQuota path names bytes) s = ap made_of s.0 ∙ (λ i. Some (call.SetQuota (s.1.0 i) (whole-optional names i) (whole-optional bytes i)))
-made_says value (call.Usage path) s = ap made_of s.0 ∙ ap (λ p. Some (call.Usage p)) s.1.0
-
--- where no rule of a call is broken, the call that was made is said
-pub call_read : (at n : ℕ) (value : Data) (name : List ℕ) (rest : List Data) (c : Call) → Some name ≡ named_by value → rest ≡ behind_name value
-    → option_map_or (λ form. pointwise has_shape form.shapes rest) (form_named name) false ≡ true
-    → first_some (map path_fault (filter_map as_str rest)) ≡ None
-    → option_map_or (λ form. list_all (λ n. nat_le form.least n && nat_le n form.most) (filter_map as_whole rest)) (form_named name) false ≡ true
-    → call_made name rest ≡ Some c → (call_fault at (n, value) ≡ None) × SaysCall value c
-unfolding made_of
-call_read at n value name rest c named behind fits paths range made =
-    let form : has_form value ≡ true = (λ i. option_map_or (λ form. pointwise has_shape form.shapes (sym behind i)) (option_and_then form_named (sym named i)) false) ∙ fits in
-    let good : refused_path value ≡ None = ap (λ (vs : List Data). first_some (map path_fault (filter_map as_str vs))) (sym behind) ∙ paths in
-    let within : has_range value ≡ true = (λ i. option_map_or (λ form. list_all (λ n. nat_le form.least n && nat_le n form.most) (filter_map as_whole (sym behind i))) (option_and_then form_named (sym named i)) false) ∙ range in
-    let none : call_fault at (n, value) ≡ None = rw (form, good, within) refl in
-    let said = some_call_said at n value none in
-    let of_value : made_of value ≡ call_made name rest = (λ i. option_and_then (λ t. call_made t (sym behind i)) (sym named i)) in
-    let same : said.0 ≡ c = ap (λ (o : Option Call). unwrap_or o said.0) (sym (made_says value said.0 said.1) ∙ of_value ∙ made) in
-    (none, subst (SaysCall value) same said.1)
 
 -- ---- stops
-
--- a stop's data is read as it
-stop_read : (stop : NodeNo × ℕ) → stop_of (stop_data stop) ≡ Some stop
-stop_read stop = refl
-
--- one of the values is a stop of the namenode where one of the stops is
-any_stops : (node : NodeNo) (stops : List (NodeNo × ℕ)) → list_any (stops_node node) (map stop_data stops) ≡ list_any (λ stop. stop.0.0 == node.0) stops
-any_stops node [] = refl
-any_stops node (stop ∷ stops) = rw (any_stops node stops) refl
 
 -- the values before a place
 take-seen : (values : List Value) (i : ℕ) → take i (map view values) ≡ map view (take i values)
@@ -164,64 +103,37 @@ take-seen (v ∷ values) (suc i) = ap (λ l. view v ∷ l) (take-seen values i)
 
 -- the first bad value of what is left of all, from this place on
 abbrev pub find_bad : ℕ → List Data → ℕ → List Data → Option (ℕ × Data)
-find_bad namenodes all n left = find (λ (p : ℕ × Data). not (is_next_stop namenodes (take p.0 all) p.1)) (enumerate_from n left)
+find_bad namenodes all n left = find (λ (p : ℕ × Data). not (is_some (stop_after namenodes (take p.0 all) p.1))) (enumerate_from n left)
 
--- the value at a place is not bad exactly where a stop is read of it
-next_by : (namenodes : ℕ) (values : List Value) (stops : List (NodeNo × ℕ)) (i : ℕ) (v : Data) → map view (take i values) ≡ map stop_data stops
-    → is_next_stop namenodes (take i (map view values)) v ≡ is_some (stop_after namenodes stops v)
-next_by namenodes values stops i v before =
-    let seen : take i (map view values) ≡ map stop_data stops = take-seen values i ∙ before in
-    ap (λ (l : List Data). is_next_stop namenodes l v) seen ∙ by (stop_of v)
-  where
-    apart : (stop : NodeNo × ℕ) (b : Bool) → not b ≡ is_some (if b then None else Some stop)
-    apart stop true = refl
-    apart stop false = refl
-
-    choose : (b : Bool) (stop : NodeNo × ℕ) → (b && not (list_any (stops_node stop.0) (map stop_data stops))) ≡ is_some (option_and_then (λ (s : NodeNo × ℕ). if list_any (λ (other : NodeNo × ℕ). other.0.0 == s.0.0) stops then None else Some s) (if b then Some stop else None))
-    choose true stop = ap not (any_stops stop.0 stops) ∙ apart stop (list_any (λ (other : NodeNo × ℕ). other.0.0 == stop.0.0) stops)
-    choose false stop = refl
-
-    by : (o : Option (NodeNo × ℕ)) → option_map_or (λ (stop : NodeNo × ℕ). is_stop namenodes stop && not (list_any (stops_node stop.0) (map stop_data stops))) o false ≡ is_some (option_and_then (λ (s : NodeNo × ℕ). if list_any (λ (other : NodeNo × ℕ). other.0.0 == s.0.0) stops then None else Some s) (option_and_then (λ (stop : NodeNo × ℕ). if is_stop namenodes stop then Some stop else None) o))
-    by None = refl
-    by (Some stop) = choose (is_stop namenodes stop) stop
-
--- the value is the stop that is read of it
-pub after_is : (namenodes : ℕ) (stops : List (NodeNo × ℕ)) (v : Data) (stop : NodeNo × ℕ) → stop_after namenodes stops v ≡ Some stop → v ≡ stop_data stop
-after_is namenodes stops v stop h = by (stop_of v) refl h
-  where
-    third : (s : NodeNo × ℕ) (b : Bool) → stop_of v ≡ Some s → (if b then None else Some s) ≡ Some stop → v ≡ stop_data stop
-    third s true e f = cc
-    third s false e f = stop_is v stop (e ∙ f)
-
-    second : (s : NodeNo × ℕ) (b : Bool) → stop_of v ≡ Some s → option_and_then (λ (t : NodeNo × ℕ). if list_any (λ (other : NodeNo × ℕ). other.0.0 == t.0.0) stops then None else Some t) (if b then Some s else None) ≡ Some stop → v ≡ stop_data stop
-    second s true e f = third s (list_any (λ (other : NodeNo × ℕ). other.0.0 == s.0.0) stops) e f
-    second s false e f = cc
-
-    by : (o : Option (NodeNo × ℕ)) → stop_of v ≡ o → option_and_then (λ (t : NodeNo × ℕ). if list_any (λ (other : NodeNo × ℕ). other.0.0 == t.0.0) stops then None else Some t) (option_and_then (λ (t : NodeNo × ℕ). if is_stop namenodes t then Some t else None) o) ≡ Some stop → v ≡ stop_data stop
-    by None e f = cc
-    by (Some s) e f = second s (is_stop namenodes s) e f
+-- what is read of the value at a place, behind the stops before it
+stop_there : (namenodes : ℕ) (values : List Value) (stops : List (NodeNo × ℕ)) (i : ℕ) (v : Data) → map view (take i values) ≡ map stop_data stops
+    → stop_after namenodes (take i (map view values)) v ≡ stop_after namenodes (map stop_data stops) v
+stop_there namenodes values stops i v before = ap (λ (l : List Data). stop_after namenodes l v) (take-seen values i ∙ before)
 
 -- the first bad value of what is left
 bad_next : (namenodes : ℕ) (all : List Data) (values : List Value) (i : ℕ) (v : Value) → i < length values → v ≡ get_or values i v
-    → find_bad namenodes all i (map view (drop i values)) ≡ (if not (is_next_stop namenodes (take i all) (view v)) then Some (i, view v) else find_bad namenodes all (i + 1) (map view (drop (i + 1) values)))
+    → find_bad namenodes all i (map view (drop i values)) ≡ (if not (is_some (stop_after namenodes (take i all) (view v))) then Some (i, view v) else find_bad namenodes all (i + 1) (map view (drop (i + 1) values)))
 bad_next namenodes all values i v lt is =
     let next : drop i values ≡ v ∷ drop (i + 1) values = drop_more values i v lt ∙ ap (λ w. w ∷ drop (i + 1) values) (sym is) in
     ap (λ (l : List Value). find_bad namenodes all i (map view l)) next
 
--- where a stop is read of the next value, the first bad one is behind it
-pub bad_later : (namenodes : ℕ) (values : List Value) (stops : List (NodeNo × ℕ)) (i : ℕ) (v : Value) (stop : NodeNo × ℕ) (whole : Option (ℕ × Data)) → i < length values → v ≡ get_or values i v → map view (take i values) ≡ map stop_data stops → stop_after namenodes stops (view v) ≡ Some stop
-    → find_bad namenodes (map view values) i (map view (drop i values)) ≡ whole → find_bad namenodes (map view values) (i + 1) (map view (drop (i + 1) values)) ≡ whole
-bad_later namenodes values stops i v stop whole lt is before read_as from =
-    let good : is_next_stop namenodes (take i (map view values)) (view v) ≡ true = next_by namenodes values stops i (view v) before ∙ ap is_some read_as in
-    sym (ap (λ (b : Bool). if not b then Some (i, view v) else find_bad namenodes (map view values) (i + 1) (map view (drop (i + 1) values))) good) ∙ sym (bad_next namenodes (map view values) values i v lt is) ∙ from
+module _ (namenodes : ℕ) (values : List Value) (stops : List (NodeNo × ℕ)) (i : ℕ) (v : Value) (lt : i < length values) (is : v ≡ get_or values i v) (before : map view (take i values) ≡ map stop_data stops) where
+  -- the first bad value of what is left, by the stop that is read of the next one
+  bad_by : (o : Option (NodeNo × ℕ)) → stop_after namenodes (map stop_data stops) (view v) ≡ o
+      → find_bad namenodes (map view values) i (map view (drop i values)) ≡ (if not (is_some o) then Some (i, view v) else find_bad namenodes (map view values) (i + 1) (map view (drop (i + 1) values)))
+  bad_by o read_as =
+      bad_next namenodes (map view values) values i v lt is
+      ∙ ap (λ (p : Option (NodeNo × ℕ)). if not (is_some p) then Some (i, view v) else find_bad namenodes (map view values) (i + 1) (map view (drop (i + 1) values))) (stop_there namenodes values stops i (view v) before ∙ read_as)
 
--- where none is, it is the first bad one
-pub bad_here : (namenodes : ℕ) (values : List Value) (stops : List (NodeNo × ℕ)) (i : ℕ) (v : Value) → i < length values → v ≡ get_or values i v → map view (take i values) ≡ map stop_data stops → stop_after namenodes stops (view v) ≡ None
-    → find_bad namenodes (map view values) i (map view (drop i values)) ≡ find_bad namenodes (map view values) 0 (map view values) → option_map (λ at. fault 9 at 0) (bad_stop namenodes (map view values)) ≡ Some (fault 9 i 0)
-bad_here namenodes values stops i v lt is before none from =
-    let bad : is_next_stop namenodes (take i (map view values)) (view v) ≡ false = next_by namenodes values stops i (view v) before ∙ ap is_some none in
-    let here : find_bad namenodes (map view values) 0 (map view values) ≡ Some (i, view v) = sym from ∙ bad_next namenodes (map view values) values i v lt is ∙ ap (λ (b : Bool). if not b then Some (i, view v) else find_bad namenodes (map view values) (i + 1) (map view (drop (i + 1) values))) bad in
-    ap (λ (o : Option (ℕ × Data)). option_map (λ at. fault 9 at 0) (option_map (λ (p : ℕ × Data). p.0) o)) here
+  -- where one is read, the first bad value is behind it
+  pub bad_later : (stop : NodeNo × ℕ) (whole : Option (ℕ × Data)) → stop_after namenodes (map stop_data stops) (view v) ≡ Some stop
+      → find_bad namenodes (map view values) i (map view (drop i values)) ≡ whole → find_bad namenodes (map view values) (i + 1) (map view (drop (i + 1) values)) ≡ whole
+  bad_later stop whole read_as from = sym (bad_by (Some stop) read_as) ∙ from
+
+  -- where none is, the next value is the first bad one
+  pub bad_here : stop_after namenodes (map stop_data stops) (view v) ≡ None → find_bad namenodes (map view values) i (map view (drop i values)) ≡ find_bad namenodes (map view values) 0 (map view values)
+      → option_map (λ at. fault 9 at 0) (bad_stop namenodes (map view values)) ≡ Some (fault 9 i 0)
+  bad_here none from = ap (λ (o : Option (ℕ × Data)). option_map (λ at. fault 9 at 0) (option_map (λ (p : ℕ × Data). p.0) o)) (sym from ∙ bad_by None none)
 
 -- more stops are said
 pub stops_more : (values : List Value) (stops : List (NodeNo × ℕ)) (i : ℕ) (v : Value) (stop : NodeNo × ℕ) → i < length values → v ≡ get_or values i v → map view (take i values) ≡ map stop_data stops → view v ≡ stop_data stop → map view (take (i + 1) values) ≡ map stop_data (stops ++ stop ∷ [])
@@ -242,40 +154,40 @@ stops_fault_is namenodes value values is = sym (ap (stops_fault namenodes) is �
 -- settings without a fault say by a truth value whether calls persist
 pub settings_persist : (ms : Members) → settings_fault ms ≡ None → may_persist ms ≡ true
 settings_persist ms h =
-    let keys = option_or-none (unless (has_known_keys ms) (fault 3 0 0)) _ h in
-    let version = option_or-none (unless (has_version ms) (fault 4 0 0)) _ keys.1 in
-    let namenodes = option_or-none (unless (has_namenodes ms) (fault 5 0 0)) _ version.1 in
-    let tries = option_or-none (unless (may_count "tries" ms) (fault 6 0 0)) _ namenodes.1 in
-    let grace = option_or-none (unless (may_count "grace" ms) (fault 7 0 0)) _ tries.1 in
-    unless-none (may_persist ms) (fault 8 0 0) (option_or-none (unless (may_persist ms) (fault 8 0 0)) None grace.1).0
+    let keys = option_or-none (fault_unless (has_known_keys ms) (fault 3 0 0)) _ h in
+    let version = option_or-none (fault_unless (has_version ms) (fault 4 0 0)) _ keys.1 in
+    let namenodes = option_or-none (fault_unless (has_namenodes ms) (fault 5 0 0)) _ version.1 in
+    let tries = option_or-none (fault_unless (may_count "tries" ms) (fault 6 0 0)) _ namenodes.1 in
+    let grace = option_or-none (fault_unless (may_count "grace" ms) (fault 7 0 0)) _ tries.1 in
+    unless-none (may_persist ms) (fault 8 0 0) (option_or-none (fault_unless (may_persist ms) (fault 8 0 0)) None grace.1).0
 
 -- the fault of the clients is that of the members where the settings and the stops have none
 pub clients_later : (ms : Members) (told : ScriptFault) → settings_fault ms ≡ None → option_and_then (stops_fault (namenodes_in ms)) (at_key "stops" ms) ≡ None → clients_fault ms ≡ Some told → members_fault ms ≡ Some told
 clients_later ms told settings stops clients = (λ i. option_or (settings i) (option_or (stops i) (option_or (clients i) None)))
 
 -- the members have no fault where none of their parts has one
-pub joined : (ms : Members) → settings_fault ms ≡ None → option_and_then (stops_fault (namenodes_in ms)) (at_key "stops" ms) ≡ None → clients_fault ms ≡ None → members_fault ms ≡ None
-joined ms settings stops clients = (λ i. option_or (settings i) (option_or (stops i) (option_or (clients i) None)))
+pub no_fault_joined : (ms : Members) → settings_fault ms ≡ None → option_and_then (stops_fault (namenodes_in ms)) (at_key "stops" ms) ≡ None → clients_fault ms ≡ None → members_fault ms ≡ None
+no_fault_joined ms settings stops clients = (λ i. option_or (settings i) (option_or (stops i) (option_or (clients i) None)))
 
 -- the members say the script that was read of them
 pub members_read : (ms : Members) (script : Script) → members_fault ms ≡ None
     → script.namenodes ≡ unwrap_or (option_and_then as_whole (at_key "namenodes" ms)) 0
     → HasClients ms script.clients → unwrap_or (at_key "stops" ms) (row []) ≡ row (map stop_data script.stops)
-    → script.tries ≡ unwrap_or (option_and_then as_whole (at_key "tries" ms)) 10000
-    → script.grace ≡ unwrap_or (option_and_then as_whole (at_key "grace" ms)) 64
+    → script.tries ≡ unwrap_or (option_and_then as_whole (at_key "tries" ms)) default_tries
+    → script.grace ≡ unwrap_or (option_and_then as_whole (at_key "grace" ms)) default_grace
     → unwrap_or (at_key "persist" ms) (boolean true) ≡ boolean script.persist
     → Says ms script × IsScript script
 members_read ms script none namenodes clients stops tries grace persist =
     let other = members_exact ms none in
-    let says = other.3 in
+    let says = other.2 in
     let node : script.namenodes ≡ other.0.namenodes = namenodes ∙ ap (λ (o : Option Data). unwrap_or (option_and_then as_whole o) 0) says.namenodes in
     let said : Says ms script =
     record {
       namenodes = says.namenodes ∙ ap (λ n. Some (whole n)) (sym node);
       clients = clients;
       stops = stops;
-      tries = count_back (at_key "tries" ms) 10000 script.tries other.0.tries tries says.tries;
-      grace = count_back (at_key "grace" ms) 64 script.grace other.0.grace grace says.grace;
+      tries = count_back (at_key "tries" ms) default_tries script.tries other.0.tries tries says.tries;
+      grace = count_back (at_key "grace" ms) default_grace script.grace other.0.grace grace says.grace;
       persist = persist;
     } in
     (said, subst IsScript (one_of_members ms other.0 script says said) other.1)

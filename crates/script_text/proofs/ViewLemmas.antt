@@ -8,7 +8,7 @@ use Rattle.serde_json.specs.Data.{Data, Members}
 use Rattle.serde_json.specs.declared.value.Value.{Value}
 use Rattle.serde_json.specs.View.{items_view, members_view, view}
 use Rattle.script_text.specs.Json.{values_of, keys_of}
-use Rattle.script_text.proofs.OneScript.{values_of-items_of}
+use Rattle.script_text.proofs.ValueFacts.{values_of-items_of}
 
 -- an object has as many keys as entries
 pub key_count : (entries : List (String Global × Value)) → length (keys_of (members_view entries)) ≡ length entries

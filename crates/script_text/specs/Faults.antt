@@ -13,7 +13,7 @@ use Rattle.serde_json.specs.Data.{Data, Members}
 use Rattle.serde_json.specs.Find.{as_bool, as_str, as_array, as_object}
 use Rattle.serde_json.specs.Read.{read}
 use Rattle.script_text.specs.declared.fault.ScriptFault.{ScriptFault}
-use Rattle.script_text.specs.Json.{values_of, values_in, keys_of, at_key, as_whole, is_within}
+use Rattle.script_text.specs.Json.{values_of, values_in, keys_of, at_key, as_whole, is_from_to}
 use Rattle.script_text.specs.CallForms.{has_form, refused_path, has_range}
 
 -- the fault by a rule at a place and a call; no path is refused
@@ -21,8 +21,13 @@ abbrev pub fault : ℕ → ℕ → ℕ → ScriptFault
 fault rule at call = record { rule = rule; at = at; call = call; path = None }
 
 -- the fault, where the rule doesn't hold
-abbrev pub unless : Bool → ScriptFault → Option ScriptFault
-unless holds told = if holds then None else Some told
+abbrev pub fault_unless : Bool → ScriptFault → Option ScriptFault
+fault_unless holds told = if holds then None else Some told
+
+-- a thing that is there and passes the test
+abbrev pub only_if : {T : Type 0} → (T → Bool) → Option T → Option T
+only_if test None = None
+only_if test (Some x) = if test x then Some x else None
 
 -- there is a value, and it passes the test
 abbrev pub has_in : (Data → Bool) → Option Data → Bool
@@ -44,7 +49,7 @@ may_have key test ms = may_have_in test (at_key key ms)
 abbrev pub is_count_data : Data → Bool
 is_count_data value = option_map_or is_count (as_whole value) false
 
--- an array of at most so many values
+-- the value is an array of at most so many values
 abbrev pub is_short_array : ℕ → Data → Bool
 is_short_array most value = option_map_or (λ items. nat_le (length (values_of items)) most) (as_array value) false
 
@@ -60,7 +65,7 @@ bad_path at call why = record { rule = 15; at = at; call = call; path = Some why
 
 -- what is wrong with a client's call: the first of rules 14, 15 and 16
 abbrev pub call_fault : ℕ → ℕ × Data → Option ScriptFault
-call_fault at (call, value) = first_some (unless (has_form value) (fault 14 at call) ∷ option_map (bad_path at call) (refused_path value) ∷ unless (has_range value) (fault 16 at call) ∷ [])
+call_fault at (call, value) = first_some (fault_unless (has_form value) (fault 14 at call) ∷ option_map (bad_path at call) (refused_path value) ∷ fault_unless (has_range value) (fault 16 at call) ∷ [])
 
 -- ---- the clients, numbered from 0
 
@@ -78,11 +83,11 @@ has_calls = has "calls" (is_short_array most_calls)
 
 -- what is wrong with the calls of the client at a place: rule 13, and then the first bad call
 abbrev pub calls_fault : ℕ → Members → Option ScriptFault
-calls_fault at ms = first_some (unless (has_calls ms) (fault 13 at 0) ∷ first_some (map (call_fault at) (enumerate_from 1 (values_at "calls" ms))) ∷ [])
+calls_fault at ms = first_some (fault_unless (has_calls ms) (fault 13 at 0) ∷ first_some (map (call_fault at) (enumerate_from 1 (values_at "calls" ms))) ∷ [])
 
 -- what is wrong with the members of a client: the first of rules 11 and 12, and then its calls
 abbrev pub client_members_fault : ℕ → Members → Option ScriptFault
-client_members_fault at ms = first_some (unless (has_both_keys ms) (fault 11 at 0) ∷ unless (has_user ms) (fault 12 at 0) ∷ calls_fault at ms ∷ [])
+client_members_fault at ms = first_some (fault_unless (has_both_keys ms) (fault 11 at 0) ∷ fault_unless (has_user ms) (fault 12 at 0) ∷ calls_fault at ms ∷ [])
 
 -- what is wrong with a client; it breaks rule 11 also where it is no object
 abbrev pub client_fault : ℕ × Data → Option ScriptFault
@@ -105,13 +110,17 @@ stop_of value = stop_from (values_in value)
 abbrev pub stops_node : NodeNo → Data → Bool
 stops_node node value = option_map_or (λ (stop : NodeNo × ℕ). stop.0.0 == node.0) (stop_of value) false
 
--- rule 9: the value is a stop in its ranges, and none of those before it is of its namenode
-abbrev pub is_next_stop : ℕ → List Data → Data → Bool
-is_next_stop namenodes before value = option_map_or (λ (stop : NodeNo × ℕ). is_stop namenodes stop && not (list_any (stops_node stop.0) before)) (stop_of value) false
+-- the stop that a value is, where it is in its ranges
+abbrev pub stop_within : ℕ → Data → Option (NodeNo × ℕ)
+stop_within namenodes value = only_if (is_stop namenodes) (stop_of value)
 
--- the place of the first value that breaks this rule
+-- the stop in its ranges that a value is, where none of the values before it is a stop of the same namenode
+abbrev pub stop_after : ℕ → List Data → Data → Option (NodeNo × ℕ)
+stop_after namenodes before value = only_if (λ stop. not (list_any (stops_node stop.0) before)) (stop_within namenodes value)
+
+-- rule 9: each value is such a stop behind those before it; else the place of the first that is none
 abbrev pub bad_stop : ℕ → List Data → Option ℕ
-bad_stop namenodes values = option_map (λ (p : ℕ × Data). p.0) (find (λ (p : ℕ × Data). not (is_next_stop namenodes (take p.0 values) p.1)) (enumerate_from 0 values))
+bad_stop namenodes values = option_map (λ (p : ℕ × Data). p.0) (find (λ (p : ℕ × Data). not (is_some (stop_after namenodes (take p.0 values) p.1))) (enumerate_from 0 values))
 
 -- what is wrong with stops: they break rule 9, also where they are no array
 abbrev pub stops_fault : ℕ → Data → Option ScriptFault
@@ -129,11 +138,11 @@ has_known_keys ms = list_all (λ key. list_any (bytes_eq key) script_keys) (keys
 
 -- rule 4: the version is 1
 abbrev pub has_version : Members → Bool
-has_version = has "version" (is_within 1 1)
+has_version = has "version" (is_from_to 1 1)
 
 -- rule 5: there are 1 to 16 namenodes
 abbrev pub has_namenodes : Members → Bool
-has_namenodes = has "namenodes" (is_within 1 most_namenodes)
+has_namenodes = has "namenodes" (is_from_to 1 most_namenodes)
 
 -- rules 6 and 7, of tries and grace: where the key is there, its value is a count
 abbrev pub may_count : String → Members → Bool
@@ -155,18 +164,18 @@ has_clients = has "clients" (is_short_array most_clients)
 abbrev pub settings_fault : Members → Option ScriptFault
 settings_fault ms =
     first_some (
-    unless (has_known_keys ms) (fault 3 0 0)
-    ∷ unless (has_version ms) (fault 4 0 0)
-    ∷ unless (has_namenodes ms) (fault 5 0 0)
-    ∷ unless (may_count "tries" ms) (fault 6 0 0)
-    ∷ unless (may_count "grace" ms) (fault 7 0 0)
-    ∷ unless (may_persist ms) (fault 8 0 0)
+    fault_unless (has_known_keys ms) (fault 3 0 0)
+    ∷ fault_unless (has_version ms) (fault 4 0 0)
+    ∷ fault_unless (has_namenodes ms) (fault 5 0 0)
+    ∷ fault_unless (may_count "tries" ms) (fault 6 0 0)
+    ∷ fault_unless (may_count "grace" ms) (fault 7 0 0)
+    ∷ fault_unless (may_persist ms) (fault 8 0 0)
     ∷ []
     )
 
 -- what is wrong with the clients of a script: rule 10, and then the first bad client
 abbrev pub clients_fault : Members → Option ScriptFault
-clients_fault ms = first_some (unless (has_clients ms) (fault 10 0 0) ∷ first_some (map client_fault (enumerate_from 0 (values_at "clients" ms))) ∷ [])
+clients_fault ms = first_some (fault_unless (has_clients ms) (fault 10 0 0) ∷ first_some (map client_fault (enumerate_from 0 (values_at "clients" ms))) ∷ [])
 
 -- what is wrong with the members of a script: its settings, its stops (rule 9), and then its clients
 abbrev pub members_fault : Members → Option ScriptFault

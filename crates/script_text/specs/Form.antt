@@ -2,9 +2,9 @@
 use Rattle.std.specs.Prelude.{ℕ, List, [], ◌∷◌, map}
 use Rattle.hops_base.specs.Path.{text_of}
 use Rattle.hops_base.specs.declared.ids.NodeNo.{NodeNo}
+use Rattle.name_space.specs.Call.{Argument, a_path, a_truth, a_number, a_quota, form_of}
 use Rattle.name_space.specs.Script.{ClientCalls, Script}
 use Rattle.name_space.specs.declared.call.Call.{Call}
-use Rattle.name_space.specs.declared.call.Call.TheVariants as call
 use Rattle.serde_json.specs.Data.{Data, boolean, string}
 use Rattle.serde_json.specs.Written.{compact_text}
 use Rattle.script_text.specs.Json.{whole, optional, word, row, fields}
@@ -13,20 +13,16 @@ use Rattle.script_text.specs.Json.{whole, optional, word, row, fields}
 abbrev pub path_data : List (List ℕ) → Data
 path_data path = string (text_of path)
 
--- a call is its name and what it is made with
+-- an argument of a call: a path is its text, and an absent quota is null
+abbrev pub argument_data : Argument → Data
+argument_data (a_path path) = path_data path
+argument_data (a_truth truth) = boolean truth
+argument_data (a_number least most number) = whole number
+argument_data (a_quota limit) = optional limit
+
+-- a call is its word and its arguments
 abbrev pub call_data : Call → Data
-call_data (call.Mkdirs path) = row (word "mkdirs" ∷ path_data path ∷ [])
-call_data (call.Create path overwrite) = row (word "create" ∷ path_data path ∷ boolean overwrite ∷ [])
-call_data (call.Append path) = row (word "append" ∷ path_data path ∷ [])
-call_data (call.Grow path bytes) = row (word "grow" ∷ path_data path ∷ whole bytes ∷ [])
-call_data (call.Close path) = row (word "close" ∷ path_data path ∷ [])
-call_data (call.Stat path) = row (word "stat" ∷ path_data path ∷ [])
-call_data (call.List path) = row (word "list" ∷ path_data path ∷ [])
-call_data (call.Delete path recursive) = row (word "delete" ∷ path_data path ∷ boolean recursive ∷ [])
-call_data (call.Rename source target) = row (word "rename" ∷ path_data source ∷ path_data target ∷ [])
-call_data (call.Chmod path mode) = row (word "chmod" ∷ path_data path ∷ whole mode ∷ [])
-call_data (call.SetQuota path names bytes) = row (word "set_quota" ∷ path_data path ∷ optional names ∷ optional bytes ∷ [])
-call_data (call.Usage path) = row (word "usage" ∷ path_data path ∷ [])
+call_data asked = row (word (form_of asked).word ∷ map argument_data (form_of asked).arguments)
 
 -- a client is its calls and its user
 abbrev pub client_data : ClientCalls → Data

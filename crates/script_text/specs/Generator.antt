@@ -5,10 +5,11 @@ use Rattle.name_space.specs.Script.{ClientCalls, Script, default_tries, default_
 use Rattle.name_space.specs.declared.call.Call.{Call}
 use Rattle.name_space.specs.declared.call.Call.TheVariants as call
 
--- each draw multiplies the state by the one and takes the remainder by the other
+-- each draw multiplies the state by this number
 abbrev pub multiplier : ℕ
 multiplier = 48271
 
+-- each draw takes the remainder by this number
 abbrev pub modulus : ℕ
 modulus = 2147483647
 
@@ -19,6 +20,10 @@ first_states = 2147483646
 -- the most namenodes
 abbrev pub most_generated_namenodes : ℕ
 most_generated_namenodes = 4
+
+-- the most calls of a client
+abbrev pub most_generated_calls : ℕ
+most_generated_calls = 5000
 
 -- the state with which the draws of a client begin
 abbrev pub first_state : ℕ → ℕ → ℕ
@@ -99,12 +104,12 @@ abbrev pub any_call : Drawing Call
 any_call = behind (any_below 16) (λ kind. get_or kinds kind (made_of call.Mkdirs any_path))
 
 -- the user of a client: a u and the client's number
-abbrev pub user_of : ℕ → List ℕ
-user_of client = codes "u" ++ decimal client
+abbrev pub user_generated : ℕ → List ℕ
+user_generated client = codes "u" ++ decimal client
 
 -- a client with so many calls
 abbrev pub client_generated : ℕ → ℕ → ℕ → ClientCalls
-client_generated seed calls client = record { user = user_of client; calls = (times calls any_call (first_state seed client)).0 }
+client_generated seed calls client = record { user = user_generated client; calls = (times calls any_call (first_state seed client)).0 }
 
 -- the script of a seed, of so many clients with so many calls each
 abbrev pub generated : ℕ → ℕ → ℕ → Script

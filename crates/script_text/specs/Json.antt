@@ -1,9 +1,9 @@
 -- Values of JSON, as scripts and reports are made of them. This project's own.
 use Prim.Native.String.{String}
-use Rattle.std.specs.Prelude.{ℕ, ◌&&◌, Bool, false, nat_le, List, [], ◌∷◌, Option, Some, None, option_and_then, codes}
+use Rattle.std.specs.Prelude.{ℕ, ◌&&◌, Bool, false, nat_le, List, [], ◌∷◌, Option, Some, None, option_and_then, unwrap_or, codes}
 use Rattle.std.specs.Option.{option_map_or}
 use Rattle.serde_json.specs.Data.{unsigned, Data, null, number, string, array, object, Items, no_items, item, Members, no_members, member}
-use Rattle.serde_json.specs.Find.{get_member, as_array, as_number, as_u64}
+use Rattle.serde_json.specs.Find.{get_member, as_array, as_bool, as_number, as_str, as_u64}
 use Rattle.serde_json.specs.View.{items_of}
 
 -- a whole number
@@ -55,5 +55,17 @@ abbrev pub as_whole : Data → Option ℕ
 as_whole value = option_and_then as_u64 (as_number value)
 
 -- the value is a whole number from the one to the other
-abbrev pub is_within : ℕ → ℕ → Data → Bool
-is_within least most value = option_map_or (λ n. nat_le least n && nat_le n most) (as_whole value) false
+abbrev pub is_from_to : ℕ → ℕ → Data → Bool
+is_from_to least most value = option_map_or (λ n. nat_le least n && nat_le n most) (as_whole value) false
+
+-- the text that a value is; it is empty for another value
+abbrev pub text_in : Data → List ℕ
+text_in value = unwrap_or (as_str value) []
+
+-- the truth value that a value is; false for another value
+abbrev pub truth_in : Data → Bool
+truth_in value = unwrap_or (as_bool value) false
+
+-- the whole number that a value is; 0 for another value
+abbrev pub number_in : Data → ℕ
+number_in value = unwrap_or (as_whole value) 0

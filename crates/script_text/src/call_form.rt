@@ -1,14 +1,13 @@
 //! Calls, as scripts and reports have them.
 
-ghost use Rattle.std.specs.Prelude.{◌≡◌, ◌∷◌, [], IfOk};
-ghost use Rattle.serde_json.specs.Data.{string};
+ghost use Rattle.std.specs.Prelude.{◌≡◌, ◌∷◌, [], ◌++◌, map, IfOk};
+ghost use Rattle.name_space.specs.Call.{form_of};
 ghost use Rattle.serde_json.specs.View.{view};
-ghost use Rattle.script_text.specs.Json.{row};
-ghost use Rattle.script_text.specs.Form.{path_data, call_data};
+ghost use Rattle.script_text.specs.Form.{argument_data, call_data};
 ghost use Rattle.script_text.specs.Built.{data_in};
 
 use crate::build::Row;
-use hops_base::{NoMemory, Path};
+use hops_base::NoMemory;
 use name_space::Call;
 use serde_json::Value;
 use std::alloc::Global;
@@ -17,28 +16,25 @@ use std::alloc::Global;
 pub fn call_value(alloc: Global, call: &Call) -> Result<Value, NoMemory>
     ensures { IfOk result (λ value. view value ≡ call_data call.now) }
 {
-    let row = match call {
-        Call::Mkdirs(path) => path_row(alloc, "mkdirs", path),
-        Call::Create(path, overwrite) => path_row(alloc, "create", path)?.truth(*overwrite),
-        Call::Append(path) => path_row(alloc, "append", path),
-        Call::Grow(path, bytes) => path_row(alloc, "grow", path)?.number(*bytes),
-        Call::Close(path) => path_row(alloc, "close", path),
-        Call::Stat(path) => path_row(alloc, "stat", path),
-        Call::List(path) => path_row(alloc, "list", path),
-        Call::Delete(path, recursive) => path_row(alloc, "delete", path)?.truth(*recursive),
-        Call::Rename(source, target) => path_row(alloc, "rename", source)?.path(target),
-        Call::Chmod(path, mode) => path_row(alloc, "chmod", path)?.number(u64::from(*mode)),
-        Call::SetQuota(path, names, bytes) => path_row(alloc, "set_quota", path)?
-            .optional(*names)?
-            .optional(*bytes),
-        Call::Usage(path) => path_row(alloc, "usage", path),
-    }?;
-    Ok(row.value())
+    let row = Row::of(alloc, call.word())?;
+    Ok(with_arguments(row, call)?.value())
 }
 
-// A word and a path.
-fn path_row(alloc: Global, word: &str, path: &Path) -> Result<Row, NoMemory>
-    ensures { IfOk result (λ row. data_in row ≡ string word.now ∷ path_data path.now ∷ []) }
+// The row with the arguments of a call behind what it has.
+fn with_arguments(row: Row, call: &Call) -> Result<Row, NoMemory>
+    ensures { IfOk result (λ all. data_in all ≡ data_in row ++ map argument_data (form_of call.now).arguments) }
 {
-    Row::of(alloc, word)?.path(path)
+    match call {
+        Call::Mkdirs(path)
+        | Call::Append(path)
+        | Call::Close(path)
+        | Call::Stat(path)
+        | Call::List(path)
+        | Call::Usage(path) => row.path(path),
+        Call::Create(path, truth) | Call::Delete(path, truth) => row.path(path)?.truth(*truth),
+        Call::Grow(path, bytes) => row.path(path)?.number(*bytes),
+        Call::Rename(source, target) => row.path(source)?.path(target),
+        Call::Chmod(path, mode) => row.path(path)?.number(u64::from(*mode)),
+        Call::SetQuota(path, names, bytes) => row.path(path)?.optional(*names)?.optional(*bytes),
+    }
 }

@@ -1,27 +1,20 @@
 //! The forms of calls: what stands behind the name of each.
 
-ghost use Rattle.std.specs.Prelude.{◌≡◌, ◌&&◌, ◌∷◌, [], nat_le, map, filter_map, Ok, IfOk, option_map, false, true};
-ghost use Rattle.std.specs.List.{list_all};
+ghost use Rattle.std.specs.Prelude.{◌≡◌, ◌∷◌, [], map, filter_map, None, IfOk, option_map, false};
 ghost use Rattle.std.specs.Option.{option_map_or};
 ghost use Rattle.std.specs.Cmp.Lexicographic.{pointwise};
 ghost use Rattle.hops_base.specs.First.{first_some};
 ghost use Rattle.hops_base.specs.Path.{path_fault};
+ghost use Rattle.name_space.specs.Call.{a_path, a_truth, a_number, a_quota, most_grown, most_mode};
 ghost use Rattle.serde_json.specs.Find.{as_str};
 ghost use Rattle.serde_json.specs.View.{view};
-ghost use Rattle.script_text.specs.Json.{values_in, as_whole};
-ghost use Rattle.script_text.specs.CallForms.{path_text, truth_value, whole_number, whole_or_null, has_shape, behind_name, form_named, named_by};
+ghost use Rattle.script_text.specs.Json.{values_in};
+ghost use Rattle.script_text.specs.CallForms.{has_kind, behind_name, kinds_named, named_by};
 
 use crate::members::array_of;
 use hops_base::{NoMemory, Path, PathFault};
 use serde_json::Value;
 use std::alloc::Global;
-
-// The most bytes that a call may add, the greatest mode, and the greatest limit of a quota.
-const MOST_GROWN: u64 = 4_294_967_296;
-
-const MOST_MODE: u64 = 511;
-
-const MOST_QUOTA: u64 = 1_000_000_000_000_000;
 
 // The values in an array; another value has none.
 pub fn values_in(value: &Value) -> &[Value]
@@ -53,22 +46,22 @@ pub fn behind_name(value: &Value) -> &[Value]
     }
 }
 
-// Whether these values may stand behind this name, in count and in type.
+// Whether these values may stand behind this name, in count and in kind.
 pub fn has_form(name: &str, rest: &[Value]) -> bool
-    ensures { result ≡ option_map_or (λ form. pointwise has_shape form.shapes (map view rest.now)) (form_named name.now) false }
+    ensures { result ≡ option_map_or (λ kinds. pointwise has_kind kinds (map view rest.now)) (kinds_named name.now) false }
 {
     match name {
         "mkdirs" | "append" | "close" | "stat" | "list" | "usage" => is_path(rest),
         "create" | "delete" => is_path_and_truth(rest),
         "grow" | "chmod" => is_path_and_number(rest),
         "rename" => is_two_paths(rest),
-        "set_quota" => is_path_and_limits(rest),
+        "set_quota" => is_path_and_quotas(rest),
         _ => false,
     }
 }
 
 fn is_path(rest: &[Value]) -> bool
-    ensures { result ≡ pointwise has_shape (path_text ∷ []) (map view rest.now) }
+    ensures { result ≡ pointwise has_kind (a_path [] ∷ []) (map view rest.now) }
 {
     match rest {
         [path] => path.is_string(),
@@ -77,7 +70,7 @@ fn is_path(rest: &[Value]) -> bool
 }
 
 fn is_path_and_truth(rest: &[Value]) -> bool
-    ensures { result ≡ pointwise has_shape (path_text ∷ truth_value ∷ []) (map view rest.now) }
+    ensures { result ≡ pointwise has_kind (a_path [] ∷ a_truth false ∷ []) (map view rest.now) }
 {
     match rest {
         [path, truth] => path.is_string() && truth.is_boolean(),
@@ -86,7 +79,8 @@ fn is_path_and_truth(rest: &[Value]) -> bool
 }
 
 fn is_path_and_number(rest: &[Value]) -> bool
-    ensures { result ≡ pointwise has_shape (path_text ∷ whole_number ∷ []) (map view rest.now) }
+    ensures grow { result ≡ pointwise has_kind (a_path [] ∷ a_number 1 most_grown 1 ∷ []) (map view rest.now) }
+    ensures chmod { result ≡ pointwise has_kind (a_path [] ∷ a_number 0 most_mode 0 ∷ []) (map view rest.now) }
 {
     match rest {
         [path, number] => path.is_string() && number.is_u64(),
@@ -95,7 +89,7 @@ fn is_path_and_number(rest: &[Value]) -> bool
 }
 
 fn is_two_paths(rest: &[Value]) -> bool
-    ensures { result ≡ pointwise has_shape (path_text ∷ path_text ∷ []) (map view rest.now) }
+    ensures { result ≡ pointwise has_kind (a_path [] ∷ a_path [] ∷ []) (map view rest.now) }
 {
     match rest {
         [source, target] => source.is_string() && target.is_string(),
@@ -103,18 +97,18 @@ fn is_two_paths(rest: &[Value]) -> bool
     }
 }
 
-fn is_path_and_limits(rest: &[Value]) -> bool
-    ensures { result ≡ pointwise has_shape (path_text ∷ whole_or_null ∷ whole_or_null ∷ []) (map view rest.now) }
+fn is_path_and_quotas(rest: &[Value]) -> bool
+    ensures { result ≡ pointwise has_kind (a_path [] ∷ a_quota None ∷ a_quota None ∷ []) (map view rest.now) }
 {
     match rest {
-        [path, names, bytes] => path.is_string() && is_limit(names) && is_limit(bytes),
+        [path, names, bytes] => path.is_string() && is_quota(names) && is_quota(bytes),
         _ => false,
     }
 }
 
 // Whether the value is a whole number or null.
-fn is_limit(value: &Value) -> bool
-    ensures { result ≡ has_shape whole_or_null (view value.now) }
+fn is_quota(value: &Value) -> bool
+    ensures { result ≡ has_kind (a_quota None) (view value.now) }
 {
     value.is_null() || value.is_u64()
 }
@@ -133,48 +127,4 @@ pub fn refused_path(alloc: Global, rest: &[Value]) -> Result<Option<PathFault>, 
         }
     }
     Ok(None)
-}
-
-// Whether the numbers are in the range of the call of this name.
-pub fn has_range(name: &str, rest: &[Value]) -> bool
-    ensures { result
-        ≡ option_map_or (λ form. list_all (λ n. nat_le form.least n && nat_le n form.most) (filter_map as_whole (map view rest.now))) (form_named name.now) false }
-{
-    match name {
-        "grow" => are_within(rest, 1, MOST_GROWN),
-        "chmod" => are_within(rest, 0, MOST_MODE),
-        "set_quota" => are_within(rest, 1, MOST_QUOTA),
-        "mkdirs"
-        | "create"
-        | "append"
-        | "close"
-        | "stat"
-        | "list"
-        | "delete"
-        | "rename"
-        | "usage" => are_within(rest, 0, 0),
-        _ => false,
-    }
-}
-
-// Whether each whole number among the values is in the range.
-fn are_within(values: &[Value], least: u64, most: u64) -> bool
-    ensures { result ≡ list_all (λ n. nat_le least n && nat_le n most) (filter_map as_whole (map view values.now)) }
-{
-    for value in values {
-        if !is_within(value, least, most) {
-            return false;
-        }
-    }
-    true
-}
-
-// Whether the value is in the range, where it is a whole number.
-fn is_within(value: &Value, least: u64, most: u64) -> bool
-    ensures { result ≡ option_map_or (λ n. nat_le least n && nat_le n most) (as_whole (view value.now)) true }
-{
-    match value.as_u64() {
-        Some(number) => least <= number && number <= most,
-        None => true,
-    }
 }

@@ -2,7 +2,8 @@
 
 ghost use Rattle.std.specs.Prelude.{◌≡◌, ◌≤◌, ◌<◌, map, IfOk};
 ghost use Rattle.std.specs.List.{range_with_len};
-ghost use Rattle.script_text.specs.Generator.{draw, any_below, any_truth, any_name, any_path, any_call, times, first_state, user_of, client_generated, generated};
+ghost use Rattle.name_space.specs.Script.{most_clients};
+ghost use Rattle.script_text.specs.Generator.{most_generated_calls, draw, any_below, any_truth, any_name, any_path, any_call, times, first_state, user_generated, client_generated, generated};
 
 use crate::script::{CallList, ClientCalls, ClientList, DEFAULT_GRACE, DEFAULT_TRIES, Script};
 use hops_base::{Name, NoMemory, Path, StopList, User};
@@ -14,8 +15,8 @@ const MULTIPLIER: u64 = 48_271;
 
 const MODULUS: u64 = 2_147_483_647;
 
-// The most namenodes.
-const MOST_NAMENODES: u32 = 4;
+// The most namenodes of what is generated.
+const MOST_GENERATED_NAMENODES: u32 = 4;
 
 /// The script of a seed: this many clients, with this many calls each, on as many namenodes as there are
 /// clients and at most 4. What else it says has its default. A seed and counts give one script.
@@ -30,11 +31,11 @@ const MOST_NAMENODES: u32 = 4;
 /// memory.
 pub fn generate(alloc: Global, seed: u32, clients: u32, calls: u32) -> Result<Script, NoMemory>
     requires some { 1 ≤ clients }
-    requires few { clients ≤ 64 }
-    requires short { calls ≤ 5000 }
+    requires few { clients ≤ most_clients }
+    requires short { calls ≤ most_generated_calls }
     ensures { IfOk result (λ script. script ≡ generated seed clients calls) }
 {
-    let namenodes = clients.min(MOST_NAMENODES);
+    let namenodes = clients.min(MOST_GENERATED_NAMENODES);
     let clients = clients_of(alloc, seed, clients, calls)?;
     let stops = StopList::new(alloc);
     Ok(Script::new(
@@ -47,7 +48,7 @@ pub fn generate(alloc: Global, seed: u32, clients: u32, calls: u32) -> Result<Sc
     ))
 }
 
-// So many clients.
+// The clients that are generated, so many of them.
 fn clients_of(alloc: Global, seed: u32, clients: u32, calls: u32) -> Result<ClientList, NoMemory>
     ensures { IfOk result (λ list. list.items ≡ map (client_generated seed calls) (range_with_len 0 clients)) }
 {
@@ -63,14 +64,14 @@ fn clients_of(alloc: Global, seed: u32, clients: u32, calls: u32) -> Result<Clie
 fn client_of(alloc: Global, seed: u32, client: u32, calls: u32) -> Result<ClientCalls, NoMemory>
     ensures { IfOk result (λ made. made ≡ client_generated seed calls client) }
 {
-    let user = user_of(alloc, client)?;
+    let user = user_generated(alloc, client)?;
     let calls = Draws::new(seed, client).calls(alloc, calls)?;
     Ok(ClientCalls::new(user, calls))
 }
 
 // The user of the client of this number.
-fn user_of(alloc: Global, client: u32) -> Result<User, NoMemory>
-    ensures { IfOk result (λ user. user ≡ user_of client) }
+fn user_generated(alloc: Global, client: u32) -> Result<User, NoMemory>
+    ensures { IfOk result (λ user. user ≡ user_generated client) }
 {
     let text = format!(in alloc; "u{client}")?;
     match User::read(alloc, &text) {
@@ -162,7 +163,7 @@ impl Draws {
         })
     }
 
-    // So many calls.
+    // The calls that are drawn, so many of them.
     fn calls(&mut self, alloc: Global, calls: u32) -> Result<CallList, NoMemory>
         ensures { IfOk result (λ list. (list.items, self.new.state) ≡ times calls any_call self.old.state) }
     {

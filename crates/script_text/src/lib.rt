@@ -2,9 +2,9 @@
 //!
 //! It stands on `hops_base`, `name_space`, `serde_json` and `thiserror`, and its proofs on `json` too. It
 //! says which bytes are a text of which script, of other bytes which rule they break first and where, and
-//! which script is generated for a seed. It shows that a text is of one script, that the text which is
-//! written for a script is one of its texts and of no other script, that bytes which break no rule are the
-//! text of a script, and that what is generated is within its ranges.
+//! which script is generated for a seed. It shows that a text denotes at most one script, that bytes without a
+//! fault denote one, that the text which is written for a script is one of its texts and of no other script,
+//! and that what is generated is a script.
 //!
 //! It promises that [`read_script`] reads exactly the scripts, and tells of other bytes the first fault, or
 //! wants memory; that a [`Script`] keeps its ranges; that [`write_script`] gives the very bytes of the one
@@ -16,6 +16,7 @@
 mod build;
 mod call_form;
 mod call_forms;
+pub mod examples;
 mod fault;
 mod generator;
 pub mod laws;

@@ -3,28 +3,27 @@
 ghost use Rattle.std.specs.Prelude.{◌≡◌, ◌≤◌, ◌<◌, [], map, length, option_map, option_and_then, unwrap_or, true, IfOk};
 ghost use Rattle.std.specs.List.{AllZip, enumerate_from};
 ghost use Rattle.hops_base.specs.First.{first_some};
+ghost use Rattle.name_space.specs.Script.{most_calls};
 ghost use Rattle.serde_json.specs.Data.{boolean};
 ghost use Rattle.serde_json.specs.Find.{get_member};
 ghost use Rattle.serde_json.specs.View.{view, members_view};
-ghost use Rattle.script_text.specs.Json.{row, at_key, as_whole, is_within};
+ghost use Rattle.script_text.specs.Json.{row, at_key, as_whole, is_from_to};
 ghost use Rattle.script_text.specs.Form.{stop_data};
 ghost use Rattle.script_text.specs.Faults.{fault, value_of, data_fault, members_fault, settings_fault, clients_fault, calls_fault, has_known_keys, may_count, may_persist, stops_fault, client_fault, client_members_fault, call_fault, has_both_keys, has_in, may_have_in, is_count_data};
-ghost use Rattle.script_text.specs.Grammar.{SaysCall, HasClient, SaysClient, Says, IsRead};
-ghost use Rattle.script_text.specs.Reading.{IsReadOf, SaysScript, HasClients, HasCalls, user_in};
+ghost use Rattle.script_text.specs.Grammar.{SaysCall, HasCalls, HasClient, SaysClient, HasClients, Says, IsRead};
+ghost use Rattle.script_text.specs.Reading.{IsReadOf, SaysScript, user_in};
 
 use crate::fault::{ScriptError, ScriptFault};
 use crate::members::{Members, array_at, has_only, key_count, text_at, value_at, whole_at};
 use crate::read_call::read_call;
 use crate::read_stops::read_stops;
-use crate::script::{CallList, ClientCalls, ClientList, DEFAULT_GRACE, DEFAULT_TRIES, Script};
+use crate::script::{
+    CallList, ClientCalls, ClientList, DEFAULT_GRACE, DEFAULT_TRIES, MOST_CALLS, MOST_CLIENTS,
+    MOST_COUNT, MOST_NAMENODES, Script,
+};
 use hops_base::{NoMemory, StopList, User, UserFault};
 use serde_json::Value;
 use std::alloc::Global;
-
-// The most clients, and the most calls of one.
-const MOST_CLIENTS: usize = 64;
-
-const MOST_CALLS: usize = 65_536;
 
 /// The script of which these bytes are a text. Else it says which rule they break first, and where.
 pub fn read_script(alloc: Global, bytes: &[u8]) -> Result<Script, ScriptError>
@@ -87,7 +86,7 @@ fn settings_fault(members: &Members) -> Option<ScriptFault>
     if !has_within(members, "version", 1) {
         return Some(ScriptFault::new(4, 0, 0));
     }
-    if !has_within(members, "namenodes", 16) {
+    if !has_within(members, "namenodes", MOST_NAMENODES) {
         return Some(ScriptFault::new(5, 0, 0));
     }
     if !may_count(members, "tries") {
@@ -121,7 +120,7 @@ fn has_known_keys(members: &Members) -> bool
 
 // Whether the whole number at the key is 1 to this one.
 fn has_within(members: &Members, key: &str, most: u64) -> bool
-    ensures { result ≡ has_in (is_within 1 most) (get_member key.now (members_view members.now.entries)) }
+    ensures { result ≡ has_in (is_from_to 1 most) (get_member key.now (members_view members.now.entries)) }
 {
     match whole_at(members, key) {
         Some(number) => 1 <= number && number <= most,
@@ -144,7 +143,7 @@ fn is_count(value: &Value) -> bool
     ensures { result ≡ is_count_data (view value.now) }
 {
     match value.as_u64() {
-        Some(number) => 1 <= number && number <= 1_000_000,
+        Some(number) => 1 <= number && number <= MOST_COUNT,
         None => false,
     }
 }
@@ -273,7 +272,7 @@ fn calls_at(alloc: Global, at: u64, members: &Members) -> Result<CallList, Scrip
 
 // The calls that values say, which are at most 65,536.
 fn calls_of(alloc: Global, at: u64, values: &[Value]) -> Result<CallList, ScriptError>
-    requires { length values.now ≤ 65536 }
+    requires { length values.now ≤ most_calls }
     ensures { IsReadOf (first_some (map (call_fault at) (enumerate_from 1 (map view values.now)))) (λ calls. AllZip SaysCall (map view values.now) calls.items) result }
 {
     let mut calls = CallList::new(alloc);

@@ -1,16 +1,18 @@
 //! Calls, read from what scripts have of them.
 
-ghost use Rattle.std.specs.Prelude.{◌≡◌, ◌≤◌, map, codes, IfOk};
+ghost use Rattle.std.specs.Prelude.{◌≡◌, map, IfOk};
+ghost use Rattle.hops_base.specs.Path.{names_in};
 ghost use Rattle.serde_json.specs.View.{view};
-ghost use Rattle.script_text.specs.Json.{as_whole};
+ghost use Rattle.script_text.specs.Json.{as_whole, text_in, truth_in, number_in};
+ghost use Rattle.script_text.specs.CallForms.{value_at};
 ghost use Rattle.script_text.specs.Faults.{call_fault};
 ghost use Rattle.script_text.specs.Grammar.{SaysCall};
-ghost use Rattle.script_text.specs.Reading.{IsReadOf, value_at, text_at, path_at, truth_at, number_at, call_made};
+ghost use Rattle.script_text.specs.Reading.{IsReadOf, IsMade};
 
-use crate::call_forms::{behind_name, has_form, has_range, name_of, refused_path};
+use crate::call_forms::{behind_name, has_form, name_of, refused_path};
 use crate::fault::{ScriptError, ScriptFault};
 use hops_base::{NoMemory, Path};
-use name_space::Call;
+use name_space::{Call, MOST_MODE};
 use serde_json::Value;
 use std::alloc::Global;
 
@@ -33,19 +35,19 @@ pub fn read_call(alloc: Global, at: u64, number: u32, value: &Value) -> Result<C
             path: Some(why),
         }));
     }
-    if !has_range(name, rest) {
+    let Some(call) = made(alloc, name, rest)? else {
+        return Err(ScriptError::Bad(ScriptFault::new(16, at, number)));
+    };
+    if !call.is_valid() {
         return Err(ScriptError::Bad(ScriptFault::new(16, at, number)));
     }
-    match made(alloc, name, rest)? {
-        Some(call) => Ok(call),
-        None => Err(ScriptError::Bad(ScriptFault::new(14, at, number))),
-    }
+    Ok(call)
 }
 
-// The call of this name with these values behind it.
+// The call of this name with these values behind it. None where no call is named so, and where the number
+// is no mode.
 fn made(alloc: Global, name: &str, rest: &[Value]) -> Result<Option<Call>, NoMemory>
-    requires { name.now ≡ codes "chmod" → number_at 1 (map view rest.now) ≤ 511 }
-    ensures { IfOk result (λ call. call ≡ call_made name.now (map view rest.now)) }
+    ensures { IfOk result (λ made. IsMade name.now (map view rest.now) made) }
 {
     Ok(Some(match name {
         "mkdirs" => Call::Mkdirs(path_at(alloc, rest, 0)?),
@@ -57,11 +59,17 @@ fn made(alloc: Global, name: &str, rest: &[Value]) -> Result<Option<Call>, NoMem
         "list" => Call::List(path_at(alloc, rest, 0)?),
         "delete" => Call::Delete(path_at(alloc, rest, 0)?, truth_at(rest, 1)),
         "rename" => Call::Rename(path_at(alloc, rest, 0)?, path_at(alloc, rest, 1)?),
-        "chmod" => Call::Chmod(path_at(alloc, rest, 0)?, number_at(rest, 1) as u16),
+        "chmod" => {
+            let mode = number_at(rest, 1);
+            if mode > u64::from(MOST_MODE) {
+                return Ok(None);
+            }
+            Call::Chmod(path_at(alloc, rest, 0)?, mode as u16)
+        }
         "set_quota" => Call::SetQuota(
             path_at(alloc, rest, 0)?,
-            limit_at(rest, 1),
-            limit_at(rest, 2),
+            quota_at(rest, 1),
+            quota_at(rest, 2),
         ),
         "usage" => Call::Usage(path_at(alloc, rest, 0)?),
         _ => return Ok(None),
@@ -70,7 +78,7 @@ fn made(alloc: Global, name: &str, rest: &[Value]) -> Result<Option<Call>, NoMem
 
 // The path at a place.
 fn path_at(alloc: Global, rest: &[Value], i: usize) -> Result<Path, NoMemory>
-    ensures { IfOk result (λ path. path ≡ path_at i (map view rest.now)) }
+    ensures { IfOk result (λ path. path ≡ names_in (text_in (value_at i (map view rest.now)))) }
 {
     match Path::read(alloc, text_at(rest, i)) {
         Ok(path) => Ok(path),
@@ -80,7 +88,7 @@ fn path_at(alloc: Global, rest: &[Value], i: usize) -> Result<Path, NoMemory>
 
 // The text at a place, which is empty where there is none.
 fn text_at(rest: &[Value], i: usize) -> &str
-    ensures { result.now ≡ text_at i (map view rest.now) }
+    ensures { result.now ≡ text_in (value_at i (map view rest.now)) }
 {
     match rest.get(i).and_then(Value::as_str) {
         Some(text) => text,
@@ -90,7 +98,7 @@ fn text_at(rest: &[Value], i: usize) -> &str
 
 // The truth value at a place.
 fn truth_at(rest: &[Value], i: usize) -> bool
-    ensures { result ≡ truth_at i (map view rest.now) }
+    ensures { result ≡ truth_in (value_at i (map view rest.now)) }
 {
     match rest.get(i).and_then(Value::as_bool) {
         Some(truth) => truth,
@@ -100,16 +108,16 @@ fn truth_at(rest: &[Value], i: usize) -> bool
 
 // The number at a place.
 fn number_at(rest: &[Value], i: usize) -> u64
-    ensures { result ≡ number_at i (map view rest.now) }
+    ensures { result ≡ number_in (value_at i (map view rest.now)) }
 {
-    match limit_at(rest, i) {
+    match quota_at(rest, i) {
         Some(number) => number,
         None => 0,
     }
 }
 
 // The number at a place, where there is one.
-fn limit_at(rest: &[Value], i: usize) -> Option<u64>
+fn quota_at(rest: &[Value], i: usize) -> Option<u64>
     ensures { result ≡ as_whole (value_at i (map view rest.now)) }
 {
     rest.get(i).and_then(Value::as_u64)

@@ -1,16 +1,17 @@
 //! Stops, read from what scripts have of them.
 
-ghost use Rattle.std.specs.Prelude.{◌≡◌, ◌==◌, map, option_map, true};
+ghost use Rattle.std.specs.Prelude.{◌≡◌, map, option_map};
 ghost use Rattle.std.specs.List.{list_any};
 ghost use Rattle.serde_json.specs.View.{view};
 ghost use Rattle.script_text.specs.Json.{row};
 ghost use Rattle.script_text.specs.Form.{stop_data};
-ghost use Rattle.script_text.specs.Faults.{fault, stops_fault, bad_stop};
-ghost use Rattle.script_text.specs.Reading.{IsReadOf, stop_within, stop_after};
+ghost use Rattle.script_text.specs.Faults.{fault, stops_fault, bad_stop, stops_node, stop_within, stop_after};
+ghost use Rattle.script_text.specs.Reading.{IsReadOf};
 
 use crate::call_forms::values_in;
 use crate::fault::{ScriptError, ScriptFault};
 use crate::members::array_of;
+use crate::script::MOST_COUNT;
 use hops_base::{NodeNo, StopList};
 use serde_json::Value;
 use std::alloc::Global;
@@ -42,7 +43,7 @@ fn stops_of(alloc: Global, namenodes: u32, values: &[Value]) -> Result<StopList,
 
 // The stop that a value is, where it is in its ranges and none of these is of its namenode.
 fn next_stop(namenodes: u32, before: &[(NodeNo, u32)], value: &Value) -> Option<(NodeNo, u32)>
-    ensures { result ≡ stop_after namenodes before.now (view value.now) }
+    ensures { result ≡ stop_after namenodes (map stop_data before.now) (view value.now) }
 {
     let (node, commit) = stop_within(namenodes, value)?;
     if stops_node(before, node) {
@@ -60,7 +61,7 @@ fn stop_within(namenodes: u32, value: &Value) -> Option<(NodeNo, u32)>
     };
     let node = node.as_u64()?;
     let commit = commit.as_u64()?;
-    if node >= u64::from(namenodes) || commit < 1 || commit > 1_000_000 {
+    if node >= u64::from(namenodes) || commit < 1 || commit > MOST_COUNT {
         return None;
     }
     Some((NodeNo(node as u32), commit as u32))
@@ -68,7 +69,7 @@ fn stop_within(namenodes: u32, value: &Value) -> Option<(NodeNo, u32)>
 
 // Whether one of these stops is of the namenode.
 fn stops_node(stops: &[(NodeNo, u32)], node: NodeNo) -> bool
-    ensures { result ≡ list_any (λ stop. stop.0.0 == node.0) stops.now }
+    ensures { result ≡ list_any (stops_node node) (map stop_data stops.now) }
 {
     for (other, _) in stops {
         if other.0 == node.0 {

@@ -7,6 +7,15 @@ use hops_base::{ItemList, StopList, User};
 use name_space::Call;
 use std::marker::Model;
 
+// The most namenodes of a script, clients, calls of a client, and the greatest count of conflicts, beats or commits.
+pub(crate) const MOST_NAMENODES: u64 = 16;
+
+pub(crate) const MOST_CLIENTS: usize = 64;
+
+pub(crate) const MOST_CALLS: usize = 65_536;
+
+pub(crate) const MOST_COUNT: u64 = 1_000_000;
+
 // What a script has of conflicts and beats where it says nothing of them.
 pub(crate) const DEFAULT_TRIES: u32 = 10_000;
 

@@ -63,18 +63,6 @@ fn text_of(alloc: Global, value: Value) -> Result<String, NoMemory> {
     Ok(value.to_string(alloc)?)
 }
 
-// Asserts that this is the text of a call.
-fn assert_call(rt: &impl Abort, alloc: Global, call: Call, expected: &str) {
-    let value = call_value(alloc, &call).expect(rt, "a value");
-    assert_text(rt, alloc, value, expected);
-    // A call of its drop is proved sooner than a match over its kinds.
-    drop(call);
-}
-
-fn path(rt: &impl Abort, alloc: Global, text: &str) -> Path {
-    Path::read(alloc, text).expect(rt, "a path")
-}
-
 #[test]
 fn a_script_without_clients(rt: HostRuntime) {
     let alloc = rt.alloc();
@@ -88,7 +76,7 @@ fn a_script_without_clients(rt: HostRuntime) {
 }
 
 #[test]
-fn a_generated_script(rt: HostRuntime) -> Result<(), Fail> {
+fn a_script_with_one_call(rt: HostRuntime) -> Result<(), Fail> {
     let alloc = rt.alloc();
     let path = Path::read(alloc, "/n2")?;
     let script = plain(alloc, one_call(alloc, "u0", Call::Stat(path))?);
@@ -113,60 +101,10 @@ fn a_script_with_everything_said(rt: HostRuntime) -> Result<(), Fail> {
     Ok(())
 }
 
-#[test]
-fn calls_with_a_path_alone(rt: HostRuntime) {
-    let alloc = rt.alloc();
-    let mkdirs = Call::Mkdirs(path(&rt, alloc, "/a/b"));
-    assert_call(&rt, alloc, mkdirs, "[\"mkdirs\",\"/a/b\"]");
-    let append = Call::Append(path(&rt, alloc, "/f"));
-    assert_call(&rt, alloc, append, "[\"append\",\"/f\"]");
-    let close = Call::Close(path(&rt, alloc, "/f"));
-    assert_call(&rt, alloc, close, "[\"close\",\"/f\"]");
-}
-
-#[test]
-fn calls_that_only_look(rt: HostRuntime) {
-    let alloc = rt.alloc();
-    let stat = Call::Stat(path(&rt, alloc, "/"));
-    assert_call(&rt, alloc, stat, "[\"stat\",\"/\"]");
-    let list = Call::List(path(&rt, alloc, "/a"));
-    assert_call(&rt, alloc, list, "[\"list\",\"/a\"]");
-    let usage = Call::Usage(path(&rt, alloc, "/q"));
-    assert_call(&rt, alloc, usage, "[\"usage\",\"/q\"]");
-}
-
-#[test]
-fn calls_with_a_truth_value(rt: HostRuntime) {
-    let alloc = rt.alloc();
-    let create = Call::Create(path(&rt, alloc, "/f"), true);
-    assert_call(&rt, alloc, create, "[\"create\",\"/f\",true]");
-    let delete = Call::Delete(path(&rt, alloc, "/f"), false);
-    assert_call(&rt, alloc, delete, "[\"delete\",\"/f\",false]");
-}
-
-#[test]
-fn calls_with_a_number(rt: HostRuntime) {
-    let alloc = rt.alloc();
-    let grow = Call::Grow(path(&rt, alloc, "/f"), 4_294_967_296);
-    assert_call(&rt, alloc, grow, "[\"grow\",\"/f\",4294967296]");
-    let chmod = Call::Chmod(path(&rt, alloc, "/f"), 511);
-    assert_call(&rt, alloc, chmod, "[\"chmod\",\"/f\",511]");
-}
-
-#[test]
-fn quotas_may_be_absent(rt: HostRuntime) {
-    let alloc = rt.alloc();
-    let bytes = Call::SetQuota(path(&rt, alloc, "/q"), None, Some(7));
-    assert_call(&rt, alloc, bytes, "[\"set_quota\",\"/q\",null,7]");
-    let names = Call::SetQuota(path(&rt, alloc, "/q"), Some(3), None);
-    assert_call(&rt, alloc, names, "[\"set_quota\",\"/q\",3,null]");
-}
-
-#[test]
-fn a_call_with_two_paths(rt: HostRuntime) {
-    let alloc = rt.alloc();
-    let call = Call::Rename(path(&rt, alloc, "/a"), path(&rt, alloc, "/b/c"));
-    assert_call(&rt, alloc, call, "[\"rename\",\"/a\",\"/b/c\"]");
+// The value of the call `stat` of this path.
+fn stat_value(rt: &impl Abort, alloc: Global, path: &str) -> Value {
+    let path = Path::read(alloc, path).expect(rt, "a path");
+    call_value(alloc, &Call::Stat(path)).expect(rt, "a value")
 }
 
 #[test]
@@ -178,8 +116,8 @@ fn names_are_escaped(rt: HostRuntime) {
         ("/\u{1}\u{1f}\u{7f}", "[\"stat\",\"/\\u0001\\u001f\u{7f}\"]"),
         ("/é€\u{1f980}", "[\"stat\",\"/é€\u{1f980}\"]"),
     ] {
-        let stat = Call::Stat(path(&rt, alloc, text));
-        assert_call(&rt, alloc, stat, expected);
+        let value = stat_value(&rt, alloc, text);
+        assert_text(&rt, alloc, value, expected);
     }
 }
 

@@ -3,7 +3,7 @@
 ghost use Rattle.std.specs.Prelude.{◌≡◌, IfOk, map};
 ghost use Rattle.serde_json.specs.View.{view};
 ghost use Rattle.script_text.specs.Json.{row};
-ghost use Rattle.script_text.specs.Grammar.{CanName, IsScriptText};
+ghost use Rattle.script_text.specs.Grammar.{IsScriptText};
 ghost use Rattle.script_text.specs.Form.{call_data, client_data, stop_data, script_data, script_text};
 
 use crate::build::{Fields, Row};
@@ -14,11 +14,10 @@ use name_space::Call;
 use serde_json::Value;
 use std::alloc::Global;
 
-/// The text of a script: compact JSON with all seven keys in byte order. Where its calls can name their
-/// paths, it is read as the script.
+/// The text of a script: compact JSON with all seven keys in byte order. It is read as the script.
 pub fn write_script(alloc: Global, script: &Script) -> Result<Vec<u8>, NoMemory>
     ensures text { IfOk result (λ bytes. bytes.items ≡ script_text script.now) }
-    ensures read_back { IfOk result (λ bytes. CanName script.now → IsScriptText bytes.items script.now) }
+    ensures read_back { IfOk result (λ bytes. IsScriptText bytes.items script.now) }
 {
     let _in_range = script.namenodes();
     Ok(script_value(alloc, script)?.to_vec(alloc)?)

@@ -49,7 +49,7 @@ fn a_script_with_all_keys(rt: HostRuntime) {
 #[test]
 fn every_call_is_read(rt: HostRuntime) {
     let text =
-        r#"{"clients":[{"calls":[["mkdirs","/a"],["create","/a/f",true],["append","/a/f"],["grow","/a/f",4294967296],["close","/a/f"],["stat","/"],["list","/a"],["delete","/a/f",false],["rename","/a","/b"],["chmod","/b",511],["set_quota","/b",1000000000000000,null],["usage","/b"]],"user":"b-2_c"}],"grace":64,"namenodes":16,"persist":true,"stops":[],"tries":10000,"version":1}"#;
+        r#"{"clients":[{"calls":[["mkdirs","/a"],["create","/a/f",true],["append","/a/f"],["grow","/a/f",4294967296],["close","/a/f"],["stat","/"],["list","/a"],["delete","/a/f",false],["rename","/a","/b"],["chmod","/b",511],["delete","/a",true],["create","/b",false],["set_quota","/b",1000000000000000,null],["set_quota","/b",null,1],["usage","/b"]],"user":"b-2_c"}],"grace":64,"namenodes":16,"persist":true,"stops":[],"tries":10000,"version":1}"#;
     assert_written(&rt, rt.alloc(), text, text);
 }
 

@@ -1,5 +1,5 @@
 use Rattle.std.proofs.Common.{ap, sym, ◌∙◌, ◌++◌, ◌∷◌, [], cond, append-nil, Bool}
-use Rattle.commit_log.proofs.RunLemmas.{journal-next}
+use Rattle.commit_log.proofs.FlagMarkLemmas.{journal-next}
 use Rattle.commit_log.proofs.journal.history_of.Goals.{then-tells_history+in_ok-push, else-tells_history}
 use Rattle.commit_log.proofs.journal.history_of.Goals as goal
 

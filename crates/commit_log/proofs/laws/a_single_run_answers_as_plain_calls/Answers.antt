@@ -1,4 +1,4 @@
-use Rattle.commit_log.specs.OneClientLaws.{replies-from_legal, legal-from_replies, space-turns_book}
+use Rattle.commit_log.proofs.OneClientLaws.{replies-from_legal, legal-from_replies, space-turns_book}
 use Rattle.commit_log.proofs.laws.a_single_run_answers_as_plain_calls.Goals as goal
 
 pub returns-clause-replies : goal.returns-clause-replies

@@ -1,4 +1,4 @@
-use Rattle.commit_log.specs.OneClientLaws.{single_orderly, single_sound, single_answers, single_licensed, single_explained}
+use Rattle.commit_log.proofs.OneClientLaws.{single_orderly, single_sound, single_answers, single_licensed, single_explained}
 use Rattle.commit_log.proofs.laws.a_single_run_is_in_order.Goals as goal
 
 pub returns-clause-orderly : goal.returns-clause-orderly

@@ -1,4 +1,4 @@
-use Rattle.commit_log.specs.OneClientLaws.{single_told, single_kept}
+use Rattle.commit_log.proofs.OneClientLaws.{single_told, single_kept}
 use Rattle.commit_log.proofs.laws.a_single_run_is_told.Goals as goal
 
 pub returns-clause-told : goal.returns-clause-told

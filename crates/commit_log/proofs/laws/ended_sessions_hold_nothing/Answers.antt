@@ -1,4 +1,4 @@
-use Rattle.commit_log.specs.LockLaws.{held-gave, held-did, held-gone}
+use Rattle.commit_log.proofs.LockLaws.{held-gave, held-did, held-gone}
 use Rattle.commit_log.proofs.laws.ended_sessions_hold_nothing.Goals as goal
 
 pub returns-clause-gave : goal.returns-clause-gave

@@ -1,4 +1,4 @@
-use Rattle.commit_log.specs.FlagLaws.{flags-flag, flags-did, flags-reclaim, flags-same}
+use Rattle.commit_log.proofs.FlagLaws.{flags-flag, flags-did, flags-reclaim, flags-same}
 use Rattle.commit_log.proofs.laws.flags_are_set_and_ended.Goals as goal
 
 pub returns-clause-set : goal.returns-clause-set

@@ -1,4 +1,4 @@
-use Rattle.commit_log.specs.ReadLaws.{held-listed, listed-held, listed-once}
+use Rattle.commit_log.proofs.ReadLaws.{held-listed, listed-held, listed-once}
 use Rattle.commit_log.proofs.laws.held_locks_are_listed.Goals as goal
 
 pub returns-clause-held : goal.returns-clause-held

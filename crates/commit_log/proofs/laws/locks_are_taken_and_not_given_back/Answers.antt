@@ -1,4 +1,4 @@
-use Rattle.commit_log.specs.LockLaws.{taken-from_held, held-from_taken}
+use Rattle.commit_log.proofs.LockLaws.{taken-from_held, held-from_taken}
 use Rattle.commit_log.proofs.laws.locks_are_taken_and_not_given_back.Goals as goal
 
 pub returns-clause-taken : goal.returns-clause-taken

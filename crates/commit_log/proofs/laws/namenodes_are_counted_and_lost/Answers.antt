@@ -1,4 +1,4 @@
-use Rattle.commit_log.specs.GoneLaws.{commits_of-push, is_void-push, is_live-push}
+use Rattle.commit_log.proofs.GoneLaws.{commits_of-push, is_void-push, is_live-push}
 use Rattle.commit_log.proofs.laws.namenodes_are_counted_and_lost.Goals as goal
 
 pub returns-clause-commits : goal.returns-clause-commits

@@ -1,4 +1,4 @@
-use Rattle.commit_log.specs.OrderLaws.{session_is_new, op_is_new}
+use Rattle.commit_log.proofs.OrderLaws.{session_is_new, op_is_new}
 use Rattle.commit_log.proofs.laws.numbers_are_new.Goals as goal
 
 pub returns-clause-session : goal.returns-clause-session

@@ -1,4 +1,4 @@
-use Rattle.commit_log.specs.IdLaws.{space-same, ids-same, ids-exists}
+use Rattle.commit_log.proofs.IdLaws.{space-same, ids-same, ids-exists}
 use Rattle.commit_log.proofs.laws.only_answers_and_cuts_change_paths.Goals as goal
 
 pub returns-clause-paths : goal.returns-clause-paths

@@ -1,4 +1,4 @@
-use Rattle.commit_log.specs.ReadLaws.{journal-notes, journal-rises, journal-legal, legal-journal, journal-space}
+use Rattle.commit_log.proofs.ReadLaws.{journal-notes, journal-rises, journal-legal, legal-journal, journal-space}
 use Rattle.commit_log.proofs.laws.the_journal_tells_the_history.Goals as goal
 
 pub returns-clause-notes : goal.returns-clause-notes

@@ -1,4 +1,4 @@
-use Rattle.commit_log.specs.OneClientLaws.{turns_book-push, turns_lines-push, length-turns_book, legal-turns_push, space-turns_push}
+use Rattle.commit_log.proofs.OneClientLaws.{turns_book-push, turns_lines-push, length-turns_book, legal-turns_push, space-turns_push}
 use Rattle.commit_log.proofs.laws.turns_come_one_after_another.Goals as goal
 
 pub returns-clause-notes : goal.returns-clause-notes

@@ -1,4 +1,4 @@
-use Rattle.commit_log.specs.PartLaws.{opening_of-kept, flag_of-kept}
+use Rattle.commit_log.proofs.PartLaws.{opening_of-kept, flag_of-kept}
 use Rattle.commit_log.proofs.laws.what_was_told_stays.Goals as goal
 
 pub returns-clause-opening : goal.returns-clause-opening

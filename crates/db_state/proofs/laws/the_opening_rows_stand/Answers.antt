@@ -1,4 +1,4 @@
-use Rattle.db_state.specs.OpeningLaws.{opening_tree, opening_stands}
+use Rattle.db_state.proofs.OpeningLaws.{opening_tree, opening_stands}
 use Rattle.db_state.proofs.laws.the_opening_rows_stand.Goals as goal
 
 pub returns : goal.returns

@@ -1,4 +1,4 @@
-use Rattle.db_state.specs.ChangeLaws.{row_of_changed, tree_changed, given_changed, stands_changed}
+use Rattle.db_state.proofs.ChangeLaws.{row_of_changed, tree_changed, given_changed, stands_changed}
 use Rattle.db_state.proofs.row_laws.a_row_changes_in_place.Goals as goal
 
 pub returns : goal.returns

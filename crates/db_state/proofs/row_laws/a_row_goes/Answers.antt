@@ -1,4 +1,4 @@
-use Rattle.db_state.specs.RemoveLaws.{row_of_removed, tree_removed, given_removed, stands_removed_quota}
+use Rattle.db_state.proofs.RemoveLaws.{row_of_removed, tree_removed, given_removed, stands_removed_quota}
 use Rattle.db_state.proofs.row_laws.a_row_goes.Goals as goal
 
 pub returns : goal.returns

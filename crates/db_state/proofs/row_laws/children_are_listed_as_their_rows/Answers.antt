@@ -1,4 +1,4 @@
-use Rattle.db_state.specs.ListLaws.{children_told_as_rows}
+use Rattle.db_state.proofs.ListLaws.{children_told_as_rows}
 use Rattle.db_state.proofs.row_laws.children_are_listed_as_their_rows.Goals as goal
 
 pub returns : goal.returns

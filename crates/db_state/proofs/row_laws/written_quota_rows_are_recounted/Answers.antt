@@ -1,4 +1,4 @@
-use Rattle.db_state.specs.QuotaWriteLaws.{recounted_written}
+use Rattle.db_state.proofs.QuotaWriteLaws.{recounted_written}
 use Rattle.db_state.proofs.row_laws.written_quota_rows_are_recounted.Goals as goal
 
 pub returns : goal.returns

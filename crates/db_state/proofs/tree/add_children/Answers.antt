@@ -1,5 +1,5 @@
 use Rattle.std.proofs.Common.{◌++◌, List, ℕ, ap, reverse, map}
-use Rattle.row_store.specs.ChildLaws.{IsChildren-only}
+use Rattle.row_store.proofs.ChildLaws.{IsChildren-only}
 use Rattle.db_state.specs.Walk.{step_to}
 use Rattle.db_state.proofs.tree.add_children.Goals as goal
 

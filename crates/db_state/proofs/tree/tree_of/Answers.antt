@@ -11,7 +11,7 @@ use Rattle.db_state.proofs.tree.tree_of.Goals as goal
 pub loop-path-init : goal.loop-path-init
 loop-path-init c =
     let first : IsWalked c.args.db.now.inodes (space c.args.db.now.settings.users c.args.db.now.notes) [] (([], root_key) ∷ []) =
-    walked_first c.args.db.now.inodes c.args.db.now.quotas (space c.args.db.now.settings.users c.args.db.now.notes) c.accord.ensures.names c.accord.ensures.stands root_row root_key c.accord.ensures.tree.root c.accord.ensures.tree.root in
+    walked_first c.args.db.now.inodes c.args.db.now.quotas (space c.args.db.now.settings.users c.args.db.now.notes) c.consistent.ensures.names c.consistent.ensures.stands root_row root_key c.consistent.ensures.tree.root c.consistent.ensures.tree.root in
     rw (c.new-tree.ensures, c.in_ok-push.ensures.items, c.new-pending.ensures.items, c.root.ensures, c.in_ok-copy.ensures, c.root_key.ensures) first
 
 pub unreachable-requires : goal.unreachable-requires
@@ -33,10 +33,10 @@ step_inode c = record {
 }
 
 pub loop-path-smaller-in_ok-reserve : goal.loop-path-smaller-in_ok-reserve
-loop-path-smaller-in_ok-reserve c = step_less c.args.db.now.inodes c.args.db.now.quotas (space c.args.db.now.settings.users c.args.db.now.notes) c.accord.ensures.names c.accord.ensures.stands _ _ _ _ (step_inode c) c.loop-path.invariant
+loop-path-smaller-in_ok-reserve c = step_less c.args.db.now.inodes c.args.db.now.quotas (space c.args.db.now.settings.users c.args.db.now.notes) c.consistent.ensures.names c.consistent.ensures.stands _ _ _ _ (step_inode c) c.loop-path.invariant
 
 pub loop-path-preserved-in_ok-reserve : goal.loop-path-preserved-in_ok-reserve
-loop-path-preserved-in_ok-reserve c = step_walked c.args.db.now.inodes c.args.db.now.quotas (space c.args.db.now.settings.users c.args.db.now.notes) c.accord.ensures.names c.accord.ensures.stands _ _ _ _ (step_inode c) c.loop-path.invariant
+loop-path-preserved-in_ok-reserve c = step_walked c.args.db.now.inodes c.args.db.now.quotas (space c.args.db.now.settings.users c.args.db.now.notes) c.consistent.ensures.names c.consistent.ensures.stands _ _ _ _ (step_inode c) c.loop-path.invariant
 
 -- where it is another
 step_other : (c : goal.In-Quota-4) → IsStep c.args.db.now.inodes c.args.db.now.quotas c.loop-path.tree.items c.push-in-Some.new.self.items c.loop-path.pending.items c.add_children.new.pending.items
@@ -53,7 +53,7 @@ step_other c = record {
 }
 
 pub loop-path-smaller : goal.loop-path-smaller
-loop-path-smaller c = step_less c.args.db.now.inodes c.args.db.now.quotas (space c.args.db.now.settings.users c.args.db.now.notes) c.accord.ensures.names c.accord.ensures.stands _ _ _ _ (step_other c) c.loop-path.invariant
+loop-path-smaller c = step_less c.args.db.now.inodes c.args.db.now.quotas (space c.args.db.now.settings.users c.args.db.now.notes) c.consistent.ensures.names c.consistent.ensures.stands _ _ _ _ (step_other c) c.loop-path.invariant
 
 pub loop-path-preserved : goal.loop-path-preserved
-loop-path-preserved c = step_walked c.args.db.now.inodes c.args.db.now.quotas (space c.args.db.now.settings.users c.args.db.now.notes) c.accord.ensures.names c.accord.ensures.stands _ _ _ _ (step_other c) c.loop-path.invariant
+loop-path-preserved c = step_walked c.args.db.now.inodes c.args.db.now.quotas (space c.args.db.now.settings.users c.args.db.now.notes) c.consistent.ensures.names c.consistent.ensures.stands _ _ _ _ (step_other c) c.loop-path.invariant

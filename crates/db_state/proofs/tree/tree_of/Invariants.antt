@@ -1,6 +1,6 @@
 use Rattle.std.proofs.Common.{length}
 use Rattle.commit_log.specs.Legal.{space}
-use Rattle.db_state.specs.Walk.{unfinished}
+use Rattle.db_state.proofs.Unfinished.{unfinished}
 use Rattle.db_state.proofs.WalkLemmas.{IsWalked}
 use Rattle.db_state.proofs.tree.tree_of.Given as goal
 

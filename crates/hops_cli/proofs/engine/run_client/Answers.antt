@@ -3,7 +3,7 @@ use Rattle.std.specs.Cmp.{second_so}
 use Rattle.name_space.specs.declared.call.Call.{Call}
 use Rattle.name_space.specs.Call.{is_valid}
 use Rattle.commit_log.specs.declared.answer.AnswerLine.{AnswerLine}
-use Rattle.commit_log.specs.Samples.{client}
+use Rattle.hops_base.specs.Ids.{client}
 use Rattle.hops_cli.specs.Turning.{IsReady}
 use Rattle.hops_cli.proofs.LoopLemmas.{passes_at, none_turned, ready, turned, few_calls}
 use Rattle.hops_cli.proofs.engine.run_client.Goals as goal

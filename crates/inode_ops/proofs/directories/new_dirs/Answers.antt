@@ -15,4 +15,4 @@ pub push-requires-clause-new : goal.push-requires-clause-new
 push-requires-clause-new c = fresh_key c.loop-name.parent.0 c.in_ok-copy.field-0 _ c.loop-name.invariant.fresh
 
 pub loop-name-preserved : goal.loop-name-preserved
-loop-name-preserved c = making_next c.args.parent.0 c.args.next.0 c.args.user.now c.args.names.now c.loop-name.name-index c.loop-name.parent.0 c.loop-name.id.0 c.loop-name.writes c.push.new.self c.name-item.result c.loop-name.invariant c.loop-name-test.true c.name-item.is (c.push.ensures ∙ rw (c.in_ok-copy.ensures, c.in_ok-new_dir.ensures) refl)
+loop-name-preserved c = making_next c.args.parent.0 c.args.next.0 c.args.user.now c.args.names.now c.loop-name.name-index c.loop-name.parent.0 c.loop-name.id.0 c.loop-name.writes c.push.new.self c.name-item.result c.loop-name.invariant c.loop-name-test.true c.name-item.is (c.push.ensures ∙ rw (c.in_ok-copy.ensures, c.new_dir.ensures, c.in_ok-copy-2.ensures) refl)

@@ -1,4 +1,4 @@
-use Rattle.name_space.specs.NamespaceLaws.{opening_is_a_namespace}
+use Rattle.name_space.proofs.NamespaceLaws.{opening_is_a_namespace}
 use Rattle.name_space.proofs.laws.opening_is_a_namespace.Goals as goal
 
 pub returns : goal.returns

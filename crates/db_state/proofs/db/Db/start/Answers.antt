@@ -1,4 +1,4 @@
-use Rattle.db_state.specs.ConsistentLaws.{opening_consistent}
+use Rattle.db_state.proofs.ConsistentLaws.{opening_consistent}
 use Rattle.db_state.proofs.PlaceLemmas.{ready_first}
 use Rattle.db_state.proofs.db.Db.start.Goals as goal
 

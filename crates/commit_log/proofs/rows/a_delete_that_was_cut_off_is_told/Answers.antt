@@ -1,8 +1,0 @@
-use Rattle.commit_log.proofs.CutOffLemmas.{told, kept}
-use Rattle.commit_log.proofs.rows.a_delete_that_was_cut_off_is_told.Goals as goal
-
-pub returns-clause-told : goal.returns-clause-told
-returns-clause-told c = told
-
-pub returns-clause-kept : goal.returns-clause-kept
-returns-clause-kept c = kept

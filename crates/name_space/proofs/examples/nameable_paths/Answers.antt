@@ -1,0 +1,7 @@
+use Rattle.std.proofs.Common.{refl}
+use Rattle.std.specs.Str.{is_utf8, chars}
+use Rattle.name_space.proofs.examples.nameable_paths.Goals as goal
+
+pub returns : goal.returns
+unfolding is_utf8 chars lib.Utf8.encode
+returns c = record { depth = refl; length = refl; text = refl; bytes = refl }

@@ -1,0 +1,5 @@
+use Rattle.std.proofs.Common.{refl}
+use Rattle.name_space.proofs.examples.rename_onto_itself.Goals as goal
+
+pub returns : goal.returns
+returns c = (refl, refl)

@@ -1,5 +1,0 @@
-use Rattle.std.proofs.Common.{refl}
-use Rattle.name_space.proofs.rows.children_in_byte_order.Goals as goal
-
-pub returns : goal.returns
-returns c = refl

@@ -1,5 +1,0 @@
-use Rattle.std.proofs.Common.{refl}
-use Rattle.name_space.proofs.rows.delete_answers.Goals as goal
-
-pub returns : goal.returns
-returns c = refl

@@ -1,0 +1,7 @@
+use Rattle.std.proofs.Common.{refl}
+use Rattle.script_text.proofs.Literals.{on_literals}
+use Rattle.report_text.proofs.examples.first_report_is_written.Goals as goal
+
+pub returns : goal.returns
+unfolding on_literals
+returns c = refl

@@ -1,7 +1,0 @@
-use Rattle.std.proofs.Common.{refl}
-use Rattle.script_text.specs.Literals.{on_literals}
-use Rattle.script_text.proofs.laws.generated_script_is_written.Goals as goal
-
-pub returns : goal.returns
-unfolding on_literals
-returns c = refl
