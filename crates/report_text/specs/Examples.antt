@@ -1,24 +1,18 @@
 -- Worked examples of reports: their parts, and their texts line by line. This project's own.
-use Rattle.std.specs.Prelude.{ℕ, true, List, [], ◌∷◌, ◌++◌, flat_map, Some, None, codes}
+use Rattle.std.specs.Prelude.{ℕ, true, List, [], ◌∷◌, ◌++◌, flat_map, None, codes}
 use Prim.Native.String.{String}
 use Rattle.hops_base.specs.declared.ids.Mode.TheVariants.{Shared, Exclusive}
 use Rattle.hops_base.specs.declared.key.Key.TheVariants as key
 use Rattle.name_space.specs.declared.call.Call.TheVariants.{Mkdirs, Stat}
-use Rattle.name_space.specs.declared.call.OpKind.TheVariants as kind
 use Rattle.name_space.specs.declared.entry.Entry.{Entry}
 use Rattle.name_space.specs.declared.entry.Entry.TheVariants as entry
 use Rattle.name_space.specs.declared.entry.FileStatus.TheVariants as status
 use Rattle.name_space.specs.declared.reply.Reply.{Reply}
-use Rattle.name_space.specs.declared.reply.Reply.TheVariants.{Truth, Status, Entries, Used, Refused}
-use Rattle.name_space.specs.declared.reply.Exception.TheVariants.{AlreadyBeingCreated, NSQuotaExceeded, IO}
-use Rattle.name_space.specs.declared.reply.Why.TheVariants.{RootFixed}
+use Rattle.name_space.specs.declared.reply.Reply.TheVariants.{Truth, Status}
 use Rattle.commit_log.specs.declared.answer.AnswerLine.{AnswerLine}
 use Rattle.commit_log.specs.declared.answer.CallEnd.TheVariants.{Done}
 use Rattle.commit_log.specs.declared.note.Note.{Note}
-use Rattle.commit_log.specs.declared.note.Note.TheVariants.{Open, Took, Gave, Wrote, Did, Met, Gone}
-use Rattle.commit_log.specs.declared.note.Work.TheVariants.{Flag}
-use Rattle.commit_log.specs.declared.note.Cause.TheVariants.{Locked, Flagged, Changed}
-use Rattle.commit_log.specs.declared.note.Ended.TheVariants.{Stopped, Evicted}
+use Rattle.commit_log.specs.declared.note.Note.TheVariants.{Open, Took, Did}
 use Rattle.script_text.specs.Examples.{first_script}
 use Rattle.report_text.specs.IsReport.{Report}
 
@@ -122,29 +116,6 @@ locked_lines =
     ∷ "[\"answer\",0,2,\"done\",8,{\"kind\":\"dir\",\"mode\":493,\"owner\":\"ann\"}]"
     ∷ made_lines
     ++ "[\"end\",9,2,3]" ∷ []
-
--- notes of other books, with their numbers and their lines
-abbrev pub other_notes : List ((ℕ × Note) × String)
-other_notes =
-    ((9, Took (record { 0 = 2 }) key.Gate Exclusive), "[9,\"took\",2,[\"gate\"],\"X\"]")
-    ∷ ((10, Wrote (record { 0 = 2 }) (Flag (record { 0 = 1 }) kind.Delete (codes "d" ∷ []))), "[10,\"wrote\",2,[\"flag\",1,\"delete\",\"/d\"]]")
-    ∷ ((18, Met (record { 0 = 3 }) (Locked (key.Inode (record { 0 = 2 }) (codes "e")) Exclusive (record { 0 = 2 }))), "[18,\"met\",3,[\"locked\",[\"inode\",2,\"e\"],\"X\",2]]")
-    ∷ ((16, Gave (record { 0 = 2 })), "[16,\"gave\",2]")
-    ∷ ((17, Met (record { 0 = 2 }) (Flagged (record { 0 = 1 }))), "[17,\"met\",2,[\"flagged\",1]]")
-    ∷ ((14, Met (record { 0 = 2 }) (Changed 6)), "[14,\"met\",2,[\"changed\",6]]")
-    ∷ ((5, Gone (record { 0 = 0 }) Stopped), "[5,\"gone\",0,\"stopped\"]")
-    ∷ ((2, Gone (record { 0 = 0 }) Evicted), "[2,\"gone\",0,\"evicted\"]")
-    ∷ []
-
--- other replies, with their texts
-abbrev pub other_replies : List (Reply × String)
-other_replies =
-    (Refused (IO RootFixed), "{\"refused\":\"IO\",\"why\":\"RootFixed\"}")
-    ∷ (Refused (NSQuotaExceeded (codes "q" ∷ []) 1 1), "{\"at\":\"/q\",\"limit\":1,\"refused\":\"NSQuotaExceeded\",\"used\":1}")
-    ∷ (Used 2 0 (Some 2) None, "{\"bytes\":0,\"max_bytes\":null,\"max_names\":2,\"names\":2}")
-    ∷ (Refused (AlreadyBeingCreated (record { 0 = 0 })), "{\"refused\":\"AlreadyBeingCreated\",\"writer\":0}")
-    ∷ (Entries (record { items = record { name = codes "_SUCCESS"; status = status.File 0 420 (codes "ann") } ∷ record { name = codes "part-00000"; status = status.File 134217728 420 (codes "ann") } ∷ []; room = 2 }), "{\"entries\":[{\"kind\":\"file\",\"len\":0,\"mode\":420,\"name\":\"_SUCCESS\",\"owner\":\"ann\"},{\"kind\":\"file\",\"len\":134217728,\"mode\":420,\"name\":\"part-00000\",\"owner\":\"ann\"}]}")
-    ∷ []
 
 -- the report of the first script with its locks
 abbrev pub locked_report : Report

@@ -1,6 +1,7 @@
 pub mod Answers
 pub mod Entries
 pub mod Examples
+pub mod FormExamples
 pub mod IsReport
 pub mod Keys
 pub mod Notes
