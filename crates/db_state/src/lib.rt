@@ -18,8 +18,6 @@ pub mod row_laws;
 mod rows;
 mod settings;
 mod tables;
-#[cfg(test)]
-mod tests;
 mod tree;
 mod view;
 mod writes;
