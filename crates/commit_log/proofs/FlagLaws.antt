@@ -20,7 +20,8 @@ use Rattle.commit_log.specs.Flags.{since_flag, ends_flag, is_running, flags}
 
 -- ---- the notes after a flag
 
-after_first-cons : {X : Type 0} (p : X → Bool) (x : X) (xs : List X) → after_first p (x ∷ xs) ≡ cond (p x) xs (after_first p xs)
+-- what stands after the first of one thing more
+pub after_first-cons : {X : Type 0} (p : X → Bool) (x : X) (xs : List X) → after_first p (x ∷ xs) ≡ cond (p x) xs (after_first p xs)
 after_first-cons p x xs = elim (p x) as (λ b. drop (cond (not b) (1 + prefix_len (λ y. not (p y)) xs) 0 + 1) (x ∷ xs) ≡ cond b xs (after_first p xs)) [
   | true ↦ refl
   | false ↦ ap (λ (n : ℕ). drop n (x ∷ xs)) (one_more (position_or_len p xs))

@@ -20,7 +20,8 @@ use Rattle.commit_log.specs.declared.note.Note.TheVariants.{Open, Took, Gave, Wr
 use Rattle.commit_log.specs.declared.note.Ended.{Ended}
 use Rattle.commit_log.specs.Along.{EachAfter, Each}
 use Rattle.commit_log.specs.Parts.{is_at, Taking}
-use Rattle.commit_log.specs.Locks.{is_of, held_after, held_from, held, conflict, clashes, SoundAt, Sound}
+use Rattle.hops_base.specs.Mode.{conflict}
+use Rattle.commit_log.specs.Locks.{is_of, held_after, held_from, held, clashes, SoundAt, Sound}
 use Rattle.commit_log.proofs.HeldLaws.{held-push, held-none}
 use Rattle.commit_log.specs.Lasting.{StaysAt, IsTaken}
 

@@ -17,7 +17,7 @@ use Rattle.hops_base.specs.declared.ids.NodeNo.{NodeNo}
 use Rattle.name_space.specs.declared.call.Call.{Call}
 use Rattle.name_space.specs.declared.reply.Reply.{Reply}
 use Rattle.name_space.specs.Namespace.{Namespace, opening}
-use Rattle.name_space.specs.Calls.{plain, as_read, replies_of, space_after}
+use Rattle.name_space.specs.Calls.{plain, as_read, replies_of, space_after_calls}
 use Rattle.name_space.specs.Script.{Script, ClientCalls, users_of, numbered, call_of}
 use Rattle.commit_log.specs.declared.note.Note.{Note}
 use Rattle.commit_log.specs.declared.answer.AnswerLine.{AnswerLine}
@@ -41,31 +41,25 @@ use Rattle.commit_log.specs.OneClient.{Turn, calls_made, replies_told, opens_tur
 
 -- ---- more turns
 
+none_more : (n : ℕ) → n ≡ n + 0
+none_more n = omega arith
+
+one_more : (n m : ℕ) → n + 1 + m ≡ n + suc m
+one_more n m = omega arith
+
 -- the notes of more turns stand after those of the first
 pub turns_book-append : (n : ℕ) (turns more : List Turn) → turns_book n (turns ++ more) ≡ turns_book n turns ++ turns_book (n + length turns) more
-turns_book-append n [] more = ap (λ k. turns_book k more) (count n)
-  where
-    count : (n : ℕ) → n ≡ n + 0
-    count n = omega arith
+turns_book-append n [] more = ap (λ k. turns_book k more) (none_more n)
 turns_book-append n (turn ∷ turns) more =
     ap (λ (notes : List Note). opens_turn (n + 1) ∷ does_turn (n + 1) turn ∷ notes)
-    (turns_book-append (n + 1) turns more ∙ ap (λ k. turns_book (n + 1) turns ++ turns_book k more) (count n (length turns)))
-  where
-    count : (n m : ℕ) → n + 1 + m ≡ n + suc m
-    count n m = omega arith
+    (turns_book-append (n + 1) turns more ∙ ap (λ k. turns_book (n + 1) turns ++ turns_book k more) (one_more n (length turns)))
 
 -- so do their lines
 pub turns_lines-append : (n : ℕ) (turns more : List Turn) → turns_lines n (turns ++ more) ≡ turns_lines n turns ++ turns_lines (n + length turns) more
-turns_lines-append n [] more = ap (λ k. turns_lines k more) (count n)
-  where
-    count : (n : ℕ) → n ≡ n + 0
-    count n = omega arith
+turns_lines-append n [] more = ap (λ k. turns_lines k more) (none_more n)
 turns_lines-append n (turn ∷ turns) more =
     ap (λ (lines : List AnswerLine). turn_line n turn ∷ lines)
-    (turns_lines-append (n + 1) turns more ∙ ap (λ k. turns_lines (n + 1) turns ++ turns_lines k more) (count n (length turns)))
-  where
-    count : (n m : ℕ) → n + 1 + m ≡ n + suc m
-    count n m = omega arith
+    (turns_lines-append (n + 1) turns more ∙ ap (λ k. turns_lines (n + 1) turns ++ turns_lines k more) (one_more n (length turns)))
 
 from_none : (n : ℕ) → 0 + n ≡ n
 from_none n = omega arith
@@ -407,12 +401,12 @@ pub legal-from_replies : (user : List ℕ) (turns : List Turn) → replies_told 
 unfolding Each
 legal-from_replies user turns told = replies_from user [] 0 turns (told ∙ ap (λ (old : Namespace). replies_of old (client 0) user (calls_made turns)) (sym (space-none (user ∷ []))))
 
-spaces : (user : List ℕ) (old : Namespace) (n : ℕ) (turns : List Turn) → space_from (user ∷ []) old (turns_book n turns) ≡ space_after old (client 0) user (calls_made turns)
+spaces : (user : List ℕ) (old : Namespace) (n : ℕ) (turns : List Turn) → space_from (user ∷ []) old (turns_book n turns) ≡ space_after_calls old (client 0) user (calls_made turns)
 spaces user old n [] = refl
 spaces user old n (turn ∷ turns) = spaces user (plain old (client 0) user turn.call).space (n + 1) turns
 
 -- its last namespace is that after the plain calls
-pub space-turns_book : (user : List ℕ) (turns : List Turn) → space (user ∷ []) (turns_book 0 turns) ≡ space_after opening (client 0) user (calls_made turns)
+pub space-turns_book : (user : List ℕ) (turns : List Turn) → space (user ∷ []) (turns_book 0 turns) ≡ space_after_calls opening (client 0) user (calls_made turns)
 unfolding space
 space-turns_book user turns = spaces user opening 0 turns
 
@@ -451,7 +445,7 @@ single_told script turns tree single legal shown = record {
 
 -- the run of one client whose replies and last namespace are those of the plain calls
 pub single_told-from_replies : (script : Script) (turns : List Turn) (tree : Namespace) (user : List ℕ) → IsSingleRun script turns → users_of script ≡ user ∷ []
-    → replies_told turns ≡ replies_of opening (client 0) user (calls_made turns) → tree ≡ space_after opening (client 0) user (calls_made turns)
+    → replies_told turns ≡ replies_of opening (client 0) user (calls_made turns) → tree ≡ space_after_calls opening (client 0) user (calls_made turns)
     → Told script (turns_book 0 turns) (turns_lines 0 turns) tree
 single_told-from_replies script turns tree user single users told shown =
     single_told script turns tree single

@@ -49,6 +49,17 @@ told_none tell is (n ∷ notes) e =
       | false ↦ told_none tell is notes
     ] e
 
+told-other : {A : Type 0} (tell : Note → Option A) (is : Note → Bool) (notes : List Note) (note : Note) → is note ≡ false
+    → slice_get (filter_map tell (filter is (notes ++ note ∷ []))) 0 ≡ slice_get (filter_map tell (filter is notes)) 0
+told-other {A = A} tell is notes note e =
+    told-append tell is notes (note ∷ [])
+    ∙ ap (option_or (slice_get (filter_map tell (filter is notes)) 0)) (told_none tell is (note ∷ []) (rw e refl))
+    ∙ or_none (slice_get (filter_map tell (filter is notes)) 0)
+  where
+    or_none : (t : Option A) → option_or t None ≡ t
+    or_none None = refl
+    or_none (Some x) = refl
+
 told_one : {A : Type 0} (tell : Note → Option A) (is : Note → Bool) (note : Note) (x : A) → is note ≡ true → tell note ≡ Some x → slice_get (filter_map tell (filter is (note ∷ []))) 0 ≡ Some x
 told_one tell is note x h e = rw (h, e) refl
 
@@ -64,14 +75,7 @@ opening_of-kept before after s o e = opening_of-append before after s ∙ ap (λ
 
 -- a note that doesn't open the session leaves its opening
 pub opening_of-other : (notes : List Note) (note : Note) (s : SessionId) → opens_session s note ≡ false → opening_of (notes ++ note ∷ []) s ≡ opening_of notes s
-opening_of-other notes note s e =
-    opening_of-append notes (note ∷ []) s
-    ∙ ap (λ (t : Option Opening). option_or (opening_of notes s) t) (told_none opened (opens_session s) (note ∷ []) (rw e refl))
-    ∙ or_none (opening_of notes s)
-  where
-    or_none : (t : Option Opening) → option_or t None ≡ t
-    or_none None = refl
-    or_none (Some o) = refl
+opening_of-other notes note s e = told-other opened (opens_session s) notes note e
 
 -- a new session's opening is that of the note which opens it
 pub opening_of-new : (notes : List Note) (s : SessionId) (client : ClientNo) (number : ℕ) (node : NodeNo) → opening_of notes s ≡ None
@@ -101,14 +105,7 @@ flag_of-kept before after op flag e = flag_of-append before after op ∙ ap (λ 
 
 -- a note that doesn't set the operation's flag leaves it
 pub flag_of-other : (notes : List Note) (note : Note) (op : OpId) → flags_op op note ≡ false → flag_of (notes ++ note ∷ []) op ≡ flag_of notes op
-flag_of-other notes note op e =
-    flag_of-append notes (note ∷ []) op
-    ∙ ap (λ (t : Option Flagging). option_or (flag_of notes op) t) (told_none flagged (flags_op op) (note ∷ []) (rw e refl))
-    ∙ or_none (flag_of notes op)
-  where
-    or_none : (t : Option Flagging) → option_or t None ≡ t
-    or_none None = refl
-    or_none (Some flag) = refl
+flag_of-other notes note op e = told-other flagged (flags_op op) notes note e
 
 -- a new operation's flag is that of the note which sets it
 pub flag_of-new : (notes : List Note) (s : SessionId) (op : OpId) (kind : OpKind) (path : Path) → flag_of notes op ≡ None

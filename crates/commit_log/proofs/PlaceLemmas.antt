@@ -1,9 +1,10 @@
 -- Where notes stand in a book with one note more, and what stands after them.
 use Rattle.std.specs.Prelude.{◌≡◌, ℕ, suc, zero, ◌+◌, Bool, true, false, not, ◌||◌, cond, nat_lt, List, [], ◌∷◌, ◌++◌, length, drop, map, Option, Some, None, option_map, is_some, refl}
-use Rattle.std.specs.List.{list_any, filter, enumerate_from, after_first, position_or_len, prefix_len}
+use Rattle.std.specs.List.{list_any, filter, enumerate_from, after_first}
 use Rattle.std.specs.Option.{option_or}
 use Rattle.std.proofs.Common.{ap, ◌∙◌, arith}
 use Rattle.commit_log.specs.declared.note.Note.{Note}
+use Rattle.commit_log.proofs.FlagLaws.{after_first-cons}
 use Rattle.commit_log.specs.Parts.{passes, is_answer_of, Flagging, flags_op}
 use Rattle.commit_log.specs.Flags.{is_running}
 use Rattle.commit_log.specs.Places.{first_end, last_end, is_past, reclaims_op}
@@ -89,15 +90,6 @@ any_drop test (suc k) (n ∷ notes) = any_drop test k notes ∙ both (test n) (l
     both b (Some m) = both_more k m
     both true None = none_below k
     both false None = refl
-
-after_first-cons : (test : Note → Bool) (n : Note) (notes : List Note) → after_first test (n ∷ notes) ≡ cond (test n) notes (after_first test notes)
-after_first-cons test n notes = elim (test n) as (λ b. drop (cond (not b) (1 + prefix_len (λ m. not (test m)) notes) 0 + 1) (n ∷ notes) ≡ cond b notes (after_first test notes)) [
-  | true ↦ refl
-  | false ↦ ap (λ (k : ℕ). drop k (n ∷ notes)) (one_more (position_or_len test notes))
-]
-  where
-    one_more : (k : ℕ) → 1 + k + 1 ≡ suc (k + 1)
-    one_more k = omega arith
 
 -- something that passes stands after the first of another kind
 pub any_after : (test other : Note → Bool) (notes : List Note) → list_any test (after_first other notes) ≡ passes (λ (k : ℕ). list_any test (drop k notes)) (first_end other notes)

@@ -253,7 +253,7 @@ PlainTurnsAreLegal =
 -- its last namespace is the one after them
 abbrev pub SpaceOfTurnsIsPlain : Type 0
 SpaceOfTurnsIsPlain =
-    (user : List ℕ) (turns : List Turn) → space (user ∷ []) (turns_book 0 turns) ≡ calls.space_after opening (client 0) user (calls_made turns)
+    (user : List ℕ) (turns : List Turn) → space (user ∷ []) (turns_book 0 turns) ≡ calls.space_after_calls opening (client 0) user (calls_made turns)
 
 -- a single run's book is in order
 abbrev pub SingleIsOrderly : Type 0

@@ -4,7 +4,7 @@ use Rattle.std.specs.List.{filter, list_any, list_all}
 use Rattle.std.specs.Ordering.{is_lt}
 use Rattle.hops_base.specs.declared.ids.SessionId.{SessionId}
 use Rattle.hops_base.specs.declared.ids.Mode.{Mode}
-use Rattle.hops_base.specs.declared.ids.Mode.TheVariants.{Shared, Exclusive}
+use Rattle.hops_base.specs.Mode.{conflict}
 use Rattle.hops_base.specs.declared.key.Key.{Key}
 use Rattle.hops_base.specs.Key.{key_cmp, same_key}
 use Rattle.commit_log.specs.declared.note.Note.{Note}
@@ -36,12 +36,6 @@ held_from before locks (note ∷ notes) = held_from (before ++ note ∷ []) (hel
 -- the locks that are held at the end of these notes, in the order in which they were taken
 unfoldable pub held : List Note → List Taking
 held notes = held_from [] [] notes
-
--- two locks on one key go together only where both are shared
-abbrev pub conflict : Mode → Mode → Bool
-conflict Shared Shared = false
-conflict Shared Exclusive = true
-conflict Exclusive mode = true
 
 -- the lock keeps another session from the key in this mode
 abbrev pub clashes : SessionId → Key → Mode → Taking → Bool

@@ -16,6 +16,7 @@ use Rattle.name_space.specs.declared.reply.Exception.TheVariants.{FileNotFound}
 use Rattle.name_space.specs.Call.{is_valid}
 use Rattle.name_space.specs.Namespace.{Path}
 use Rattle.name_space.specs.Script.{Script, ClientCalls}
+pub use Rattle.name_space.specs.Examples.{ann}
 use Rattle.commit_log.specs.declared.note.Note.{Note}
 use Rattle.commit_log.specs.declared.note.Note.TheVariants.{Open, Took, Gave, Wrote, Did, Cut, Met, Gone}
 use Rattle.commit_log.specs.declared.note.Work.TheVariants.{Flag, Batch, Reclaim}
@@ -75,10 +76,7 @@ e_key = inode 2 (codes "e")
 
 -- ---- calls and scripts
 
--- the users of ann and of ben
-abbrev pub ann : List ℕ
-ann = codes "ann"
-
+-- the user of another client than ann
 abbrev pub ben : List ℕ
 ben = codes "ben"
 

@@ -11,7 +11,7 @@ use Rattle.name_space.specs.Namespace.{Namespace, Path, entry_at, with_entry}
 use Rattle.name_space.specs.Plain.{with_dirs}
 use Rattle.inode_table.specs.declared.inode.Inode.{Inode}
 use Rattle.inode_table.specs.declared.inode.Kind.TheVariants.{Dir}
-use Rattle.db_state.specs.State.{Tables, new_dir}
+use Rattle.db_state.specs.State.{Tables, dir_row}
 use Rattle.db_state.specs.Spelled.{Inodes, spelled, IsTree}
 use Rattle.db_state.specs.Stands.{Quotas, quota_of, entry_of, Stands}
 use Rattle.db_state.specs.Written.{written, next_after}
@@ -37,6 +37,25 @@ pub under_new : (names : List (List ℕ)) (inodes : Inodes) (next : ℕ) (tree :
 under_new [] inodes next tree dir parent name new at none free = tt
 under_new (n ∷ names) inodes next tree dir parent name new at none free = new_childless inodes next tree dir parent name new at none free n
 
+-- what is known once the first of the names is made as a new directory
+pub record IsFirstMade (inodes : Inodes) (next : ℕ) (dir : List (List ℕ)) (parent : Inode) (name : List ℕ) (names : List (List ℕ)) (new : Inode) : Type 0 where
+  pub free : next ≤ new.id.0
+  pub tree : IsTree (map.insert inodes (key.Inode parent.id name) new) (next + 1)
+  pub there : spelled (map.insert inodes (key.Inode parent.id name) new) (name ∷ dir) ≡ Some new
+  pub below : FirstMissing (map.insert inodes (key.Inode parent.id name) new) new.id names
+
+pub first_made : (names : List (List ℕ)) (inodes : Inodes) (next : ℕ) (tree : IsTree inodes next) (dir : List (List ℕ)) (parent : Inode) (name owner : List ℕ) → spelled inodes dir ≡ Some parent → map.get inodes (key.Inode parent.id name) ≡ None → parent.kind ≡ Dir
+    → IsFirstMade inodes next dir parent name names (dir_row next owner)
+first_made names inodes next tree dir parent name owner at none is_dir =
+    let new : Inode = dir_row next owner in
+    let free : next ≤ new.id.0 = omega arith in
+    record {
+      free = free;
+      tree = tree_grown inodes next tree dir parent name new at none free is_dir (λ dir. (refl, refl));
+      there = new_spelled inodes next tree dir parent name new at none free;
+      below = under_new names inodes next tree dir parent name new at none free;
+    }
+
 -- the tables with one inode row more
 abbrev pub with_inode : Tables → Inode → List ℕ → Inode → Tables
 with_inode tables parent name new = record { inodes = map.insert tables.inodes (key.Inode parent.id name) new; quotas = tables.quotas }
@@ -44,7 +63,7 @@ with_inode tables parent name new = record { inodes = map.insert tables.inodes (
 -- a chain of new directories leaves the quota rows
 pub quotas_chained : (names : List (List ℕ)) (tables : Tables) (parent next : ℕ) (owner : List ℕ) → (written tables (new_dirs parent next owner names)).quotas ≡ tables.quotas
 quotas_chained [] tables parent next owner = refl
-quotas_chained (name ∷ names) tables parent next owner = quotas_chained names (record { inodes = map.insert tables.inodes (key.Inode (record { 0 = parent }) name) (new_dir next owner); quotas = tables.quotas }) next (next + 1) owner
+quotas_chained (name ∷ names) tables parent next owner = quotas_chained names (record { inodes = map.insert tables.inodes (key.Inode (record { 0 = parent }) name) (dir_row next owner); quotas = tables.quotas }) next (next + 1) owner
 
 -- rows with a chain of new directories below a directory spell a tree again
 pub tree_chained : (names : List (List ℕ)) (tables : Tables) (next : ℕ) (tree : IsTree tables.inodes next) (dir : List (List ℕ)) (parent : Inode) (owner : List ℕ) → spelled tables.inodes dir ≡ Some parent → parent.kind ≡ Dir → FirstMissing tables.inodes parent.id names
@@ -52,12 +71,10 @@ pub tree_chained : (names : List (List ℕ)) (tables : Tables) (next : ℕ) (tre
 tree_chained [] tables next tree dir parent owner at is_dir none = subst (IsTree tables.inodes) (sym (add-zero next)) tree
 tree_chained (name ∷ names) tables next tree dir parent owner at is_dir none =
     let inodes : Inodes = tables.inodes in
-    let new : Inode = new_dir next owner in
+    let new : Inode = dir_row next owner in
     let after : Tables = with_inode tables parent name new in
-    let free : next ≤ new.id.0 = omega arith in
-    let grown = tree_grown inodes next tree dir parent name new at none free is_dir (λ dir. (refl, refl)) in
-    let there = new_spelled inodes next tree dir parent name new at none free in
-    let rest = tree_chained names after (next + 1) grown (name ∷ dir) new owner there refl (under_new names inodes next tree dir parent name new at none free) in
+    let made = first_made names inodes next tree dir parent name owner at none is_dir in
+    let rest = tree_chained names after (next + 1) made.tree (name ∷ dir) new owner made.there refl made.below in
     let sum : next + 1 + length names ≡ next + suc (length names) = omega arith in
     subst (IsTree (written after (new_dirs next (next + 1) owner names)).inodes) sum rest
 
@@ -67,20 +84,18 @@ pub stands_chained : (names : List (List ℕ)) (tables : Tables) (next : ℕ) (t
 stands_chained [] tables next tree quotas removed space stands dir parent owner at is_dir none unremoved = stands
 stands_chained (name ∷ names) tables next tree quotas removed space stands dir parent owner at is_dir none unremoved =
     let inodes : Inodes = tables.inodes in
-    let new : Inode = new_dir next owner in
+    let new : Inode = dir_row next owner in
     let after : Tables = with_inode tables parent name new in
-    let free : next ≤ new.id.0 = omega arith in
     let path : reverse (name ∷ dir) ≡ reverse dir ++ name ∷ [] = reverse-push name dir in
-    let grown = tree_grown inodes next tree dir parent name new at none free is_dir (λ dir. (refl, refl)) in
-    let there = new_spelled inodes next tree dir parent name new at none free in
-    let unquoted : quota_of quotas new.id ≡ None = no_quota inodes next tree quotas removed space stands new.id free in
+    let made = first_made names inodes next tree dir parent name owner at none is_dir in
+    let unquoted : quota_of quotas new.id ≡ None = no_quota inodes next tree quotas removed space stands new.id made.free in
     let entry : entry_of quotas new ≡ spaces.new_dir owner = rw unquoted refl in
     let first : Stands (map.insert inodes (key.Inode parent.id name) new) quotas removed (with_entry space (reverse (name ∷ dir)) (entry_of quotas new)) =
-    stands_grown inodes next tree quotas removed space stands dir parent name new at none free refl (ap (entry_at removed) path ∙ unremoved.0) in
+    stands_grown inodes next tree quotas removed space stands dir parent name new at none made.free refl (ap (entry_at removed) path ∙ unremoved.0) in
     let here : Stands (map.insert inodes (key.Inode parent.id name) new) quotas removed (with_entry space (reverse dir ++ name ∷ []) (spaces.new_dir owner)) =
     subst (λ (e : Entry). Stands (map.insert inodes (key.Inode parent.id name) new) quotas removed (with_entry space (reverse dir ++ name ∷ []) e)) entry
     (subst (λ (p : Path). Stands (map.insert inodes (key.Inode parent.id name) new) quotas removed (with_entry space p (entry_of quotas new))) path first) in
-    let rest = stands_chained names after (next + 1) grown quotas removed (with_entry space (reverse dir ++ name ∷ []) (spaces.new_dir owner)) here (name ∷ dir) new owner there refl (under_new names inodes next tree dir parent name new at none free)
+    let rest = stands_chained names after (next + 1) made.tree quotas removed (with_entry space (reverse dir ++ name ∷ []) (spaces.new_dir owner)) here (name ∷ dir) new owner made.there refl made.below
     (subst (λ (p : Path). Unremoved removed (paths_below p names)) (sym path) unremoved.1) in
     subst (λ (p : Path). Stands (written after (new_dirs next (next + 1) owner names)).inodes quotas removed (with_dirs (with_entry space (reverse dir ++ name ∷ []) (spaces.new_dir owner)) owner (paths_below p names))) path rest
 
@@ -90,13 +105,11 @@ pub flags_chained : (names : List (List ℕ)) (tables : Tables) (next : ℕ) (tr
 flags_chained [] tables next tree dir parent owner at is_dir none k = refl
 flags_chained (name ∷ names) tables next tree dir parent owner at is_dir none k =
     let inodes : Inodes = tables.inodes in
-    let new : Inode = new_dir next owner in
+    let new : Inode = dir_row next owner in
     let after : Tables = with_inode tables parent name new in
-    let free : next ≤ new.id.0 = omega arith in
-    let grown = tree_grown inodes next tree dir parent name new at none free is_dir (λ dir. (refl, refl)) in
-    let there = new_spelled inodes next tree dir parent name new at none free in
+    let made = first_made names inodes next tree dir parent name owner at none is_dir in
     let absent : new.flag ≡ flag_at inodes (key.Inode parent.id name) = sym (ap (option_and_then (λ (r : Inode). r.flag)) none) in
-    flags_chained names after (next + 1) grown (name ∷ dir) new owner there refl (under_new names inodes next tree dir parent name new at none free) k
+    flags_chained names after (next + 1) made.tree (name ∷ dir) new owner made.there refl made.below k
     ∙ flags_with inodes (key.Inode parent.id name) new absent k
 
 -- ---- counted

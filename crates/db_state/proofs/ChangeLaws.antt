@@ -18,6 +18,7 @@ use Rattle.db_state.specs.Stands.{Quotas, quota_of, entry_of, Stands}
 use Rattle.db_state.specs.Consistent.{flag_at}
 use Rattle.db_state.proofs.FlagLaws.{flags_with}
 use Rattle.db_state.proofs.PathLaws.{same_id, injective}
+use Rattle.db_state.proofs.StandLaws.{not_removed}
 
 -- the new row in place of that with its id
 abbrev pub swapped : Inode → Inode → Inode
@@ -122,10 +123,7 @@ module _ (inodes : Inodes) (next : ℕ) (tree : IsTree inodes next) (at : Key) (
     pub stands_changed : (quotas : Quotas) (removed space : Namespace) → Stands inodes quotas removed space → new.kind ≡ old.kind → new.has_quota ≡ old.has_quota
         → Stands (map.insert inodes at new) quotas removed (with_entry space path (entry_of quotas new))
     stands_changed quotas removed space stands kinds quoted =
-        let unremoved : entry_at removed path ≡ None = (elim (entry_at removed path) as (λ o. entry_at removed path ≡ o → o ≡ None) [
-          | None ↦ λ e. refl
-          | Some entry ↦ λ e. absurd (let gone = stands.once path (ap is_some e) in cc)
-        ]) refl in
+        let unremoved = not_removed inodes quotas removed space stands path old here in
         record {
           entries = λ q. find-put path_cmp path_cmp_total q path (entry_of quotas new) space ∙ (elim (paths_tell q path) [
             | inl h ↦ let row = row_of_changed q in rw (row, h.0, h.1, unremoved) refl

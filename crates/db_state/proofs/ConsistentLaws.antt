@@ -20,7 +20,7 @@ use Rattle.commit_log.proofs.SpaceLaws.{space-none}
 use Rattle.commit_log.specs.Parts.{did}
 use Rattle.commit_log.specs.Told.{cut_in}
 use Rattle.db_state.specs.Settings.{Settings}
-use Rattle.db_state.specs.State.{State, opening, opening_rows, root_row}
+use Rattle.db_state.specs.State.{State, opening_state, opening_rows, root_row}
 use Rattle.db_state.specs.Spelled.{AreGiven, spelled}
 use Rattle.db_state.specs.Stands.{Stands}
 use Rattle.db_state.specs.Counts.{Counts}
@@ -36,7 +36,7 @@ given_up [] path is row e =
 given_up (name ∷ up) path is row e = absurd (let none = no_other name up in cc)
 
 -- before anything happened all of it is consistent
-pub opening_consistent : (settings : Settings) → IsConsistent (opening settings)
+pub opening_consistent : (settings : Settings) → IsConsistent (opening_state settings)
 opening_consistent settings = record {
   tree = opening_tree;
   numbered = record {

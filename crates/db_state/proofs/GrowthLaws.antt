@@ -13,14 +13,14 @@ use Rattle.name_space.proofs.UsedLaws.{used_names-with_missing, used_names-with_
 use Rattle.inode_table.specs.declared.inode.Inode.{Inode}
 use Rattle.inode_table.specs.declared.inode.Kind.TheVariants.{Dir}
 use Rattle.quota_table.specs.declared.quota.QuotaRow.{QuotaRow}
-use Rattle.db_state.specs.State.{Tables, new_dir}
+use Rattle.db_state.specs.State.{Tables, dir_row}
 use Rattle.db_state.specs.Spelled.{Inodes, child_of, spelled, row_of, IsTree}
 use Rattle.db_state.specs.Stands.{Quotas, quota_of, entry_of, Stands}
 use Rattle.db_state.specs.Counts.{Counts}
 use Rattle.db_state.specs.Written.{written}
 use Rattle.db_state.specs.NewDirs.{new_dirs, paths_below, FirstMissing}
-use Rattle.db_state.proofs.PathLaws.{injective, tree_grown, inserted}
-use Rattle.db_state.proofs.ChainLaws.{with_inode, new_spelled, under_new, paths_below-length, tree_chained}
+use Rattle.db_state.proofs.PathLaws.{injective, inserted}
+use Rattle.db_state.proofs.ChainLaws.{with_inode, first_made, paths_below-length, tree_chained}
 use Rattle.db_state.proofs.UnderLaws.{entry_at-child}
 use Rattle.db_state.specs.Recounted.{Change, IsRecounted}
 use Rattle.db_state.proofs.CountLaws.{Uses}
@@ -50,13 +50,11 @@ pub still_chained : (names : List (List ℕ)) (tables : Tables) (next : ℕ) (tr
 still_chained [] tables next tree dir parent owner at is_dir none up x e = e
 still_chained (name ∷ names) tables next tree dir parent owner at is_dir none up x e =
     let inodes : Inodes = tables.inodes in
-    let new : Inode = new_dir next owner in
+    let new : Inode = dir_row next owner in
     let after : Tables = with_inode tables parent name new in
-    let free : next ≤ new.id.0 = omega arith in
-    let grown = tree_grown inodes next tree dir parent name new at none free is_dir (λ dir. (refl, refl)) in
-    let there = new_spelled inodes next tree dir parent name new at none free in
-    still_chained names after (next + 1) grown (name ∷ dir) new owner there refl (under_new names inodes next tree dir parent name new at none free) up x
-    (still_grown inodes next tree dir parent name new at none free up x e)
+    let made = first_made names inodes next tree dir parent name owner at none is_dir in
+    still_chained names after (next + 1) made.tree (name ∷ dir) new owner made.there refl made.below up x
+    (still_grown inodes next tree dir parent name new at none made.free up x e)
 
 -- ---- what is used with each missing prefix of a path
 

@@ -21,6 +21,7 @@ use Rattle.db_state.specs.Spelled.{Inodes, row_of, IsTree}
 use Rattle.db_state.specs.Stands.{Quotas, quota_of, entry_of_kind, entry_of, Stands}
 use Rattle.db_state.specs.Counts.{Counts}
 use Rattle.db_state.proofs.PathLaws.{same_id, injective}
+use Rattle.db_state.proofs.StandLaws.{not_removed}
 use Rattle.db_state.proofs.ChangeLaws.{swapped, swapped-id, found_before, changed_spelled, changed_key, row_of_changed}
 use Rattle.db_state.specs.Requoted.{HasLimit, IsRequoted}
 
@@ -48,10 +49,7 @@ module _ (inodes : Inodes) (next : ℕ) (tree : IsTree inodes next) (at : Key) (
     pub stands_requoted : (removed space : Namespace) → Stands inodes quotas removed space → new.kind ≡ Dir → new.has_quota ≡ is_some (quota_of others old.id) → ((quota : QuotaRow) → quota_of others old.id ≡ Some quota → HasLimit quota)
         → Stands (map.insert inodes at new) others removed (with_entry space path (entry_of others new))
     stands_requoted removed space stands dir mark limits =
-        let unremoved : entry_at removed path ≡ None = (elim (entry_at removed path) as (λ o. entry_at removed path ≡ o → o ≡ None) [
-          | None ↦ λ e. refl
-          | Some entry ↦ λ e. absurd (let gone = stands.once path (ap is_some e) in cc)
-        ]) refl in
+        let unremoved = not_removed inodes quotas removed space stands path old here in
         record {
           entries = λ q. find-put path_cmp path_cmp_total q path (entry_of others new) space ∙ (elim (paths_tell q path) [
             | inl h ↦ let row = row_of_changed inodes next tree at old new there ids path here q in rw (row, h.0, h.1, unremoved) refl

@@ -10,12 +10,12 @@ use Rattle.name_space.specs.Namespace.{Path, paths_below}
 use Rattle.inode_table.specs.declared.inode.Inode.{Inode}
 use Rattle.inode_table.specs.declared.inode.Kind.TheVariants.{Dir}
 use Rattle.commit_log.specs.Ids.{Numbering, with_new}
-use Rattle.db_state.specs.State.{Tables, new_dir}
+use Rattle.db_state.specs.State.{Tables, dir_row}
 use Rattle.db_state.specs.Spelled.{Inodes, spelled, IsTree, AreGiven}
 use Rattle.db_state.specs.Written.{written}
 use Rattle.db_state.specs.NewDirs.{new_dirs, FirstMissing}
-use Rattle.db_state.proofs.PathLaws.{tree_grown, inserted}
-use Rattle.db_state.proofs.ChainLaws.{with_inode, reverse-push, new_spelled, under_new}
+use Rattle.db_state.proofs.PathLaws.{inserted}
+use Rattle.db_state.proofs.ChainLaws.{with_inode, reverse-push, first_made}
 
 -- a new row has the id that its path is given
 pub given_grown : (inodes : Inodes) (next : ℕ) (tree : IsTree inodes next) (dir : List (List ℕ)) (parent : Inode) (name : List ℕ) (new : Inode) (at : spelled inodes dir ≡ Some parent) (none : map.get inodes (key.Inode parent.id name) ≡ None) (free : next ≤ new.id.0) (numbering : Numbering)
@@ -40,15 +40,13 @@ pub given_chained : (names : List (List ℕ)) (tables : Tables) (next : ℕ) (tr
 given_chained [] tables next tree dir parent owner at is_dir none numbering same given = given
 given_chained (name ∷ names) tables next tree dir parent owner at is_dir none numbering same given =
     let inodes : Inodes = tables.inodes in
-    let new : Inode = new_dir next owner in
+    let new : Inode = dir_row next owner in
     let wider : Tables = with_inode tables parent name new in
-    let free : next ≤ new.id.0 = omega arith in
     let path : reverse (name ∷ dir) ≡ reverse dir ++ name ∷ [] = reverse-push name dir in
-    let grown = tree_grown inodes next tree dir parent name new at none free is_dir (λ dir. (refl, refl)) in
-    let there = new_spelled inodes next tree dir parent name new at none free in
+    let made = first_made names inodes next tree dir parent name owner at none is_dir in
     let after : Numbering = record { ids = map.Entries.put path_cmp (reverse (name ∷ dir)) next numbering.ids; next = numbering.next + 1 } in
-    let here : AreGiven (map.insert inodes (key.Inode parent.id name) new) after = given_grown inodes next tree dir parent name new at none free numbering given in
-    let rest = given_chained names wider (next + 1) grown (name ∷ dir) new owner there refl (under_new names inodes next tree dir parent name new at none free) after (ap (λ n. n + 1) same) here in
+    let here : AreGiven (map.insert inodes (key.Inode parent.id name) new) after = given_grown inodes next tree dir parent name new at none made.free numbering given in
+    let rest = given_chained names wider (next + 1) made.tree (name ∷ dir) new owner made.there refl made.below after (ap (λ n. n + 1) same) here in
     let as_put : with_new after (paths_below (reverse (name ∷ dir)) names) ≡ with_new numbering (paths_below (reverse dir) (name ∷ names)) =
     ap (λ (p : Path). with_new (record { ids = map.Entries.put path_cmp p next numbering.ids; next = numbering.next + 1 }) (paths_below p names)) path
     ∙ ap (λ n. with_new (record { ids = map.Entries.put path_cmp (reverse dir ++ name ∷ []) n numbering.ids; next = numbering.next + 1 }) (paths_below (reverse dir ++ name ∷ []) names)) (sym same) in

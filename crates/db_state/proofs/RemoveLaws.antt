@@ -18,6 +18,7 @@ use Rattle.db_state.specs.State.{root_key}
 use Rattle.db_state.specs.Spelled.{Inodes, child_of, spelled, row_of, IsTree, AreGiven}
 use Rattle.db_state.specs.Stands.{Quotas, quota_of, entry_of_kind, entry_of, Stands}
 use Rattle.db_state.specs.Consistent.{flag_at, FlagsStay}
+use Rattle.db_state.proofs.StandLaws.{not_removed}
 use Rattle.db_state.proofs.PathLaws.{same_id, injective}
 use Rattle.db_state.proofs.ChangeLaws.{same_reversed}
 
@@ -159,10 +160,7 @@ module _ (inodes : Inodes) (next : ℕ) (tree : IsTree inodes next) (at : Key) (
 
     module _ (quotas : Quotas) (removed space : Namespace) (stands : Stands inodes quotas removed space) where
       unremoved : entry_at removed path ≡ None
-      unremoved = (elim (entry_at removed path) as (λ o. entry_at removed path ≡ o → o ≡ None) [
-        | None ↦ λ e. refl
-        | Some entry ↦ λ e. absurd (let gone = stands.once path (ap is_some e) in cc)
-      ]) refl
+      unremoved = not_removed inodes quotas removed space stands path old here
 
       module _ (others : Quotas) (keys : (k : Key) (quota : QuotaRow) → map.get others k ≡ Some quota → (id : InodeId) × (k ≡ key.Quota id))
           (gone : quota_of others old.id ≡ None) (same : (id : InodeId) → id ≢ old.id → quota_of others id ≡ quota_of quotas id) where

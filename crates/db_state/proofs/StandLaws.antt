@@ -14,6 +14,14 @@ use Rattle.db_state.specs.Spelled.{Inodes, row_of, spelled, IsTree}
 use Rattle.db_state.specs.Stands.{Quotas, quota_of, entry_of, Stands}
 use Rattle.db_state.proofs.PathLaws.{inserted, stays, old_or_new}
 
+-- where a row stands, nothing was removed
+pub not_removed : (inodes : Inodes) (quotas : Quotas) (removed space : Namespace) → Stands inodes quotas removed space → (path : Path) (row : Inode) → row_of inodes path ≡ Some row → entry_at removed path ≡ None
+not_removed inodes quotas removed space stands path row here =
+    (elim (entry_at removed path) as (λ o. entry_at removed path ≡ o → o ≡ None) [
+      | None ↦ λ e. refl
+      | Some entry ↦ λ e. absurd (let gone = stands.once path (ap is_some e) in cc)
+    ]) refl
+
 module _ (inodes : Inodes) (next : ℕ) (tree : IsTree inodes next) (quotas : Quotas) (removed space : Namespace) (stands : Stands inodes quotas removed space) where
   -- an id that no row has has no quota row
   pub no_quota : (id : InodeId) → next ≤ id.0 → quota_of quotas id ≡ None

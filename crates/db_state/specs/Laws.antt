@@ -20,7 +20,7 @@ use Rattle.commit_log.specs.Parts.{did}
 use Rattle.commit_log.specs.Told.{cut_in}
 use Rattle.db_state.specs.declared.view.Place.{Place}
 use Rattle.db_state.specs.Settings.{Settings}
-use Rattle.db_state.specs.State.{State, Tables, root_key, opening, opening_rows}
+use Rattle.db_state.specs.State.{State, Tables, root_key, opening_state, opening_rows}
 use Rattle.db_state.specs.Spelled.{Inodes, spelled, row_of, FitsKind, IsTree, AreGiven}
 use Rattle.db_state.specs.Stands.{Quotas, quota_of, entry_of, Stands}
 use Rattle.db_state.specs.Counts.{Counts}
@@ -311,7 +311,7 @@ OpeningStands = Stands opening_rows map.empty [] spaces.opening
 
 -- before anything happened rows and book are consistent
 abbrev pub OpeningIsConsistent : Type 0
-OpeningIsConsistent = (settings : Settings) → IsConsistent (opening settings)
+OpeningIsConsistent = (settings : Settings) → IsConsistent (opening_state settings)
 
 -- consistent rows and book stay so with one note more that is neither a Did nor a Cut
 abbrev pub QuietNotesKeepItConsistent : Type 0

@@ -7,7 +7,7 @@ use Rattle.hops_base.specs.declared.key.Key.{Key}
 use Rattle.hops_base.specs.declared.key.Key.TheVariants as key
 use Rattle.name_space.specs.Namespace.{Namespace, Path, entry_at}
 pub use Rattle.name_space.specs.Namespace.{paths_below}
-use Rattle.db_state.specs.State.{new_dir}
+use Rattle.db_state.specs.State.{dir_row}
 use Rattle.db_state.specs.Spelled.{Inodes}
 use Rattle.db_state.specs.declared.writes.Row.{Row}
 use Rattle.db_state.specs.declared.writes.Row.TheVariants as row
@@ -16,7 +16,7 @@ use Rattle.db_state.specs.declared.writes.Row.TheVariants as row
 abbrev pub new_dirs : ℕ → ℕ → List ℕ → List (List ℕ) → List (Key × Option Row)
 new_dirs parent next owner [] = []
 new_dirs parent next owner (name ∷ names) =
-    (key.Inode (record { 0 = parent }) name, Some (row.Inode (new_dir next owner))) ∷ new_dirs next (next + 1) owner names
+    (key.Inode (record { 0 = parent }) name, Some (row.Inode (dir_row next owner))) ∷ new_dirs next (next + 1) owner names
 
 -- the first of the names has no row under the parent
 abbrev pub FirstMissing : Inodes → InodeId → List (List ℕ) → Type 0

@@ -9,7 +9,7 @@ use Rattle.hops_base.specs.declared.key.Key.TheVariants as key
 use Rattle.name_space.specs.declared.call.Call.{Call}
 use Rattle.name_space.specs.declared.call.Call.TheVariants as call
 use Rattle.inode_table.specs.declared.inode.Inode.{Inode}
-use Rattle.inode_table.specs.Inode.{is_dir}
+use Rattle.inode_table.specs.Inode.{is_dir_kind}
 use Rattle.db_state.specs.declared.view.Place.{Place}
 
 -- the list, where the test passes
@@ -57,10 +57,10 @@ quotas place = flat_map (λ (r : Key × Inode). where_so r.1.has_quota (key.Quot
 
 -- the path's own row, where it is a directory's; where it is a file's
 abbrev pub own_dir : Place → List Inode
-own_dir place = filter (λ (row : Inode). is_dir row.kind) (option_to_list (own_row place))
+own_dir place = filter (λ (row : Inode). is_dir_kind row.kind) (option_to_list (own_row place))
 
 abbrev pub own_file : Place → List Inode
-own_file place = filter (λ (row : Inode). not (is_dir row.kind)) (option_to_list (own_row place))
+own_file place = filter (λ (row : Inode). not (is_dir_kind row.kind)) (option_to_list (own_row place))
 
 -- the lease key of this client, and of the writer, for the path's file
 abbrev pub lease : ClientNo → Place → List Key

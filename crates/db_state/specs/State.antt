@@ -37,18 +37,18 @@ abbrev pub root_key : Key
 root_key = key.Inode (record { 0 = 0 }) (codes "root")
 
 -- a new directory of this id and owner
-abbrev pub new_dir : ℕ → List ℕ → Inode
-new_dir id owner =
+abbrev pub dir_row : ℕ → List ℕ → Inode
+dir_row id owner =
     record { id = record { 0 = id }; kind = Dir; len = 0; writer = None; mode = dir_mode; owner = owner; has_quota = false; flag = None }
 
 -- the root's row
 abbrev pub root_row : Inode
-root_row = new_dir 1 root_owner
+root_row = dir_row 1 root_owner
 
 -- the rows before anything happened: the root's alone
 abbrev pub opening_rows : Inodes
 opening_rows = map.insert map.empty root_key root_row
 
 -- all of it before anything happened, with these settings
-abbrev pub opening : Settings → State
-opening settings = record { inodes = opening_rows; quotas = map.empty; settings = settings; notes = []; next = 2 }
+abbrev pub opening_state : Settings → State
+opening_state settings = record { inodes = opening_rows; quotas = map.empty; settings = settings; notes = []; next = 2 }

@@ -3,7 +3,7 @@
 ghost use Rattle.std.specs.Prelude.{◌≡◌, ◌<◌, ◌≤◌, ◌^◌, Some, IfOk, IfSome, OnOk, OnErr, option_copied, slice_get};
 ghost use Rattle.std.specs.FinMap as map;
 ghost use Rattle.row_store.specs.Children.{child_count, IsChildren};
-ghost use Rattle.db_state.specs.State.{opening, root_key, root_row};
+ghost use Rattle.db_state.specs.State.{opening_state, root_key, root_row};
 ghost use Rattle.db_state.specs.Consistent.{IsConsistent};
 ghost use Rattle.db_state.specs.Stands.{quota_of};
 ghost use Rattle.db_state.specs.Written.{committed, next_after};
@@ -53,7 +53,7 @@ impl Model for Db {
 impl Db {
     /// The opening namespace, `/` alone, and an empty book, with these settings.
     pub fn start(alloc: Global, settings: &Settings) -> Result<Db, NoMemory>
-        ensures { IfOk result (λ db. db ≡ opening settings.now) }
+        ensures { IfOk result (λ db. db ≡ opening_state settings.now) }
     {
         let top = make_root_key(alloc)?;
         let key = top.copy()?;

@@ -1,7 +1,7 @@
 //! The row of a new directory.
 
 ghost use Rattle.std.specs.Prelude.{◌≡◌};
-ghost use Rattle.db_state.specs.State.{new_dir};
+ghost use Rattle.db_state.specs.State.{dir_row};
 
 use hops_base::{InodeId, User};
 use inode_table::{Inode, Kind};
@@ -9,7 +9,7 @@ use name_space::DIR_MODE;
 
 /// The row of a new directory of this id and owner. It takes no memory.
 pub fn new_dir(id: InodeId, owner: User) -> Inode
-    ensures { result ≡ new_dir id.0 owner }
+    ensures { result ≡ dir_row id.0 owner }
 {
     Inode {
         id,

@@ -18,7 +18,7 @@ pub enum Row {
     Quota(QuotaRow),
 }
 
-/// Keys with their new rows, each key once; none removes the row of the key. It is seen as the list of
+/// Keys with their new rows, each key once; `None` removes the row of the key. It is seen as the list of
 /// its pairs and its room.
 #[derive(Debug, Drop)]
 pub struct Writes {

@@ -36,8 +36,8 @@ Keeps bytes given.Failed old new = (new.held ≡ old.held) × Rose old.faults ne
 Keeps bytes given.NoMemory old new = new.held ≡ old.held
 
 -- the next value of a counter that stays at its last
-abbrev pub counted : ℕ → ℕ
-counted n = min (n + 1) (2 ^ 64 - 1)
+abbrev pub counted_on : ℕ → ℕ
+counted_on n = min (n + 1) (2 ^ 64 - 1)
 
 -- a source or a sink in memory: its bytes, how many go at one call, the numbers of the calls that fail, from 1, how
 -- many calls were made, and how many of them failed
@@ -55,11 +55,11 @@ coded_scripted =
 
 -- the next call fails
 abbrev pub fails_next : Scripted → Bool
-fails_next s = list_any (λ n. n == counted s.calls) s.fails
+fails_next s = list_any (λ n. n == counted_on s.calls) s.fails
 
 -- a call was made, and failed
 abbrev pub failed : Scripted → Scripted
-failed s = record s { calls = counted s.calls; faults = counted s.faults }
+failed s = record s { calls = counted_on s.calls; faults = counted_on s.faults }
 
 -- what a source in memory that doesn't fail answers to a call for at most this many bytes: as many as there are of
 -- those that are left
@@ -79,13 +79,13 @@ TakesIn most bytes given.NoMemory held held' = held' ≡ held
 abbrev pub Plays : ℕ → Taken → Scripted → Scripted → Type 0
 Plays max answer old new = MatchBool (fails_next old)
     ((answer ≡ taken.Failed) × (new ≡ failed old))
-    (HandsOver (min old.piece max) answer old.bytes new.bytes × (new ≡ record old { bytes = new.bytes; calls = counted old.calls }))
+    (HandsOver (min old.piece max) answer old.bytes new.bytes × (new ≡ record old { bytes = new.bytes; calls = counted_on old.calls }))
 
 -- what a sink in memory answers to these bytes
 abbrev pub Records : List ℕ → Given → Scripted → Scripted → Type 0
 Records bytes answer old new = MatchBool (fails_next old)
     ((answer ≡ given.Failed) × (new ≡ failed old))
-    (TakesIn old.piece bytes answer old.bytes new.bytes × (new ≡ record old { bytes = new.bytes; calls = counted old.calls }))
+    (TakesIn old.piece bytes answer old.bytes new.bytes × (new ≡ record old { bytes = new.bytes; calls = counted_on old.calls }))
 
 -- what the buffer holds after an answer of a source that has these bytes left
 abbrev pub IsAppended : Taken → List ℕ → List ℕ → List ℕ → Type 0

@@ -2,6 +2,7 @@ pub mod Devices
 pub mod First
 pub mod Ids
 pub mod Key
+pub mod Mode
 pub mod Name
 pub mod Path
 pub mod Roomy

@@ -1,4 +1,7 @@
-//! The numbers that name things.
+//! The numbers that name things, and the modes of locks.
+
+ghost use Rattle.std.specs.Prelude.{◌≡◌};
+ghost use Rattle.hops_base.specs.Mode.{conflict};
 
 /// An inode. The root has 1, new ones take the numbers from 2 on, and 0 stands only as the parent in
 /// the root's key.
@@ -27,4 +30,13 @@ pub struct NodeNo(pub u32);
 pub enum Mode {
     Shared,
     Exclusive,
+}
+
+impl Mode {
+    /// That two locks on one key in these modes keep each other away. It takes no memory.
+    pub fn conflicts(self, other: Mode) -> bool
+        ensures { result ≡ conflict self other }
+    {
+        self == Mode::Exclusive || other == Mode::Exclusive
+    }
 }

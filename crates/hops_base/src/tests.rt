@@ -1,8 +1,8 @@
 //! Worked values, and each call that may want memory, with ample memory.
 
 use crate::{
-    ClientNo, Given, IdList, InodeId, ItemList, Key, MemSink, MemSource, Name, NameFault, OpId,
-    Path, PathFault, Sink, Source, SteadySink, SteadySource, Taken, User, UserFault,
+    ClientNo, Given, IdList, InodeId, ItemList, Key, MemSink, MemSource, Mode, Name, NameFault,
+    OpId, Path, PathFault, Sink, Source, SteadySink, SteadySource, Taken, User, UserFault,
 };
 use std::alloc::Global;
 use std::process::Abort;
@@ -238,4 +238,12 @@ fn steady_sinks_take_all(rt: HostRuntime) {
     let mut sink = SteadySink::new(rt.alloc());
     assert!(rt; sink.give(b"hello") == Given::Took(5));
     assert!(rt; sink.written() == b"hello".as_slice());
+}
+
+#[test]
+fn shared_locks_alone_go_together(rt: HostRuntime) {
+    assert!(rt; !Mode::Shared.conflicts(Mode::Shared));
+    assert!(rt; Mode::Shared.conflicts(Mode::Exclusive));
+    assert!(rt; Mode::Exclusive.conflicts(Mode::Shared));
+    assert!(rt; Mode::Exclusive.conflicts(Mode::Exclusive));
 }

@@ -4,7 +4,7 @@ use Rattle.std.proofs.Math.Seq.{take-length}
 use Rattle.name_space.specs.declared.call.Call.{Call}
 use Rattle.name_space.specs.declared.reply.Reply.{Reply}
 use Rattle.name_space.specs.Namespace.{Namespace, IsNamespace, opening}
-use Rattle.name_space.specs.Calls.{as_read, replies_of, space_after}
+use Rattle.name_space.specs.Calls.{as_read, replies_of, space_after_calls}
 use Rattle.name_space.specs.Script.{Script, ClientCalls, users_of}
 use Rattle.commit_log.specs.declared.note.Note.{Note}
 use Rattle.commit_log.specs.declared.answer.AnswerLine.{AnswerLine}
@@ -69,8 +69,8 @@ run_one script one state lines tree small is done legal names shown =
     let lawful : Legal (one.user ∷ []) (turns_book 0 turns) = subst (λ (us : List (List ℕ)). Legal us (turns_book 0 turns)) users (subst (Legal (users_of script)) done.notes legal) in
     let replies : list_map (λ (line : AnswerLine). reply_in line.end) (turns_lines 0 turns) ≡ list_map Some (replies_of opening (client 0) one.user one.calls) =
     lines_tell 0 turns ∙ ap (list_map Some) (replies-from_legal one.user turns lawful) ∙ ap (λ (cs : List Call). list_map Some (replies_of opening (client 0) one.user cs)) (sym calls) in
-    let last : space (one.user ∷ []) (turns_book 0 turns) ≡ space_after opening (client 0) one.user one.calls =
-    space-turns_book one.user turns ∙ ap (space_after opening (client 0) one.user) (sym calls) in
+    let last : space (one.user ∷ []) (turns_book 0 turns) ≡ space_after_calls opening (client 0) one.user one.calls =
+    space-turns_book one.user turns ∙ ap (space_after_calls opening (client 0) one.user) (sym calls) in
     turns_run script turns state.notes lines tree small (made-one script.clients one turns is calls) done.notes done.told legal names
     (subst (λ (us : List (List ℕ)). Each (TellsReads us) state.notes) (sym users) done.reads) shown
     (subst (λ (cs : List ClientCalls). IsPlainRun cs (turns_lines 0 turns) (space (list_map (λ (c : ClientCalls). c.user) cs) (turns_book 0 turns))) (sym is) (replies, last))

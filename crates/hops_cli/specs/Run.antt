@@ -3,7 +3,7 @@ use Rattle.std.specs.Prelude.{◌≡◌, ℕ, List, [], ◌∷◌, length, map, 
 use Rattle.std.specs.List.{filter, sum_by}
 use Rattle.name_space.specs.Call.{paths_of}
 use Rattle.name_space.specs.Namespace.{Namespace, Path, IsNamespace, entry_at, is_dir, above, opening}
-use Rattle.name_space.specs.Calls.{as_read, replies_of, space_after}
+use Rattle.name_space.specs.Calls.{as_read, replies_of, space_after_calls}
 use Rattle.name_space.specs.Script.{Script, ClientCalls, users_of}
 use Rattle.name_space.specs.declared.reply.Reply.{Reply}
 use Rattle.commit_log.specs.declared.note.Note.{Note}
@@ -30,7 +30,7 @@ reply_in (NoNamenode note) = None
 abbrev pub IsPlainRun : List ClientCalls → List AnswerLine → Namespace → Type 0
 IsPlainRun [] lines tree = (lines ≡ []) × (tree ≡ opening)
 IsPlainRun (one ∷ []) lines tree =
-    (map (λ (line : AnswerLine). reply_in line.end) lines ≡ map Some (replies_of opening (client 0) one.user one.calls)) × (tree ≡ space_after opening (client 0) one.user one.calls)
+    (map (λ (line : AnswerLine). reply_in line.end) lines ≡ map Some (replies_of opening (client 0) one.user one.calls)) × (tree ≡ space_after_calls opening (client 0) one.user one.calls)
 IsPlainRun (one ∷ other ∷ more) lines tree = ⊥
 
 -- the rows that the resolution of a path reads: in each directory above the path one, under its next name, there or

@@ -4,12 +4,12 @@ use Rattle.hops_cli.specs.declared.status.Status.{Status}
 use Rattle.hops_cli.specs.declared.status.Status.TheVariants.{Done, Usage, BadScript, ReadFault, WriteFault, TooLarge, NoMemory, Unbuilt}
 
 -- the exit status
-abbrev pub number_of : Status → ℕ
-number_of Done = 0
-number_of (Usage place) = 2
-number_of (BadScript fault) = 3
-number_of ReadFault = 4
-number_of WriteFault = 5
-number_of TooLarge = 6
-number_of NoMemory = 7
-number_of (Unbuilt client call) = 8
+abbrev pub status_number : Status → ℕ
+status_number Done = 0
+status_number (Usage place) = 2
+status_number (BadScript fault) = 3
+status_number ReadFault = 4
+status_number WriteFault = 5
+status_number TooLarge = 6
+status_number NoMemory = 7
+status_number (Unbuilt client call) = 8

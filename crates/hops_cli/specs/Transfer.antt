@@ -22,11 +22,11 @@ abbrev pub IsAtEnd : Stock → Type 0
 IsAtEnd stock = MatchOption stock.left ⊤ (λ left. left ≡ [])
 
 -- what came of taking in a source that may have so many bytes: no more than one byte past them is taken
-abbrev pub TakesIn : ℕ → TakenIn → Stock → Stock → Type 0
-TakesIn limit (taken_in.All bytes) old new = HasTaken bytes.items old new × (length bytes.items ≤ limit) × IsAtEnd new
-TakesIn limit taken_in.TooLarge old new = (taken : List ℕ) × HasTaken taken old new × (length taken ≡ limit + 1)
-TakesIn limit taken_in.Failed old new = (taken : List ℕ) × HasTaken taken old new × (length taken ≤ limit) × Rose old.faults new.faults
-TakesIn limit taken_in.NoMemory old new = (taken : List ℕ) × HasTaken taken old new × (length taken ≤ limit)
+abbrev pub IsTakenIn : ℕ → TakenIn → Stock → Stock → Type 0
+IsTakenIn limit (taken_in.All bytes) old new = HasTaken bytes.items old new × (length bytes.items ≤ limit) × IsAtEnd new
+IsTakenIn limit taken_in.TooLarge old new = (taken : List ℕ) × HasTaken taken old new × (length taken ≡ limit + 1)
+IsTakenIn limit taken_in.Failed old new = (taken : List ℕ) × HasTaken taken old new × (length taken ≤ limit) × Rose old.faults new.faults
+IsTakenIn limit taken_in.NoMemory old new = (taken : List ℕ) × HasTaken taken old new × (length taken ≤ limit)
 
 -- what came of giving this text out
 abbrev pub GivesOut : List ℕ → GivenOut → Store → Store → Type 0

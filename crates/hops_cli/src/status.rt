@@ -1,7 +1,7 @@
 //! How the program ends.
 
 ghost use Rattle.std.specs.Prelude.{◌≡◌};
-ghost use Rattle.hops_cli.specs.Status.{number_of};
+ghost use Rattle.hops_cli.specs.Status.{status_number};
 
 use script_text::ScriptFault;
 use std::fmt;
@@ -33,7 +33,7 @@ pub enum Status {
 impl Status {
     /// The exit status.
     pub fn number(&self) -> u8
-        ensures { result ≡ number_of self.now }
+        ensures { result ≡ status_number self.now }
     {
         match self {
             Status::Done => 0,

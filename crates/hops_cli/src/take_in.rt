@@ -1,7 +1,7 @@
 //! Taking in all that a source has.
 
 ghost use Rattle.std.specs.Prelude.{◌<◌, ◌^◌};
-ghost use Rattle.hops_cli.specs.Transfer.{TakesIn};
+ghost use Rattle.hops_cli.specs.Transfer.{IsTakenIn};
 
 use hops_base::{Source, Taken};
 use std::alloc::Global;
@@ -23,7 +23,7 @@ pub enum TakenIn {
 /// that, and ends at the first fault.
 pub fn take_all<S: Source>(alloc: Global, source: &mut S, limit: usize) -> TakenIn
     requires { limit < 2 ^ 32 }
-    ensures { TakesIn limit result (S.stock source.old) (S.stock source.new) }
+    ensures { IsTakenIn limit result (S.stock source.old) (S.stock source.new) }
 {
     let mut bytes = Vec::new(alloc);
     while bytes.len() <= limit {

@@ -33,7 +33,7 @@ use Rattle.db_state.specs.declared.view.Place.{Place}
 use Rattle.db_state.specs.declared.view.View.{View}
 use Rattle.db_state.specs.declared.writes.Row.{Row}
 use Rattle.db_state.specs.declared.writes.Row.TheVariants as row
-use Rattle.inode_ops.specs.ChmodSteps.{with_mode, IsModeSet}
+use Rattle.inode_ops.specs.ChmodSteps.{row_with_mode, IsModeSet}
 use Rattle.inode_ops.specs.Outcomes.{IsViewOf, IsTableOf}
 use Rattle.inode_ops.specs.Steps.{IsRefused}
 use Rattle.db_state.specs.CallsTable.{IsAnswer}
@@ -74,26 +74,26 @@ chmod_there space path bits entry some here =
 
 -- ---- the row
 
-entry_mode : (kind : Kind) (inode : Inode) (quota : Option QuotaRow) (bits : ℕ) → rule.with_mode bits (entry_of_kind kind inode quota) ≡ entry_of_kind kind (with_mode bits inode) quota
+entry_mode : (kind : Kind) (inode : Inode) (quota : Option QuotaRow) (bits : ℕ) → rule.with_mode bits (entry_of_kind kind inode quota) ≡ entry_of_kind kind (row_with_mode bits inode) quota
 entry_mode Dir inode quota bits = refl
 entry_mode File inode quota bits = refl
 
-same_bytes : (kind : Kind) (inode : Inode) (quota : Option QuotaRow) (bits : ℕ) → bytes_of (entry_of_kind kind inode quota) ≡ bytes_of (entry_of_kind kind (with_mode bits inode) quota)
+same_bytes : (kind : Kind) (inode : Inode) (quota : Option QuotaRow) (bits : ℕ) → bytes_of (entry_of_kind kind inode quota) ≡ bytes_of (entry_of_kind kind (row_with_mode bits inode) quota)
 same_bytes Dir inode quota bits = refl
 same_bytes File inode quota bits = refl
 
 module _ (tables : Tables) (bound : ℕ) (space : Namespace) (client : ClientNo) (user : List ℕ) (view : View) (place : Place) (locked : List (Key × Mode)) (set : IsSet tables view.next.0 space locked view.quotas.items place) (whole : is_whole place ≡ true) where
-  answer_mode : (bits : ℕ) → length place.path ≢ 0 → is_locked locked set.walk.down.bottom.0 ≡ true → (reply : Reply) (writes : List (Key × Option Row)) → reply ≡ Truth true → writes ≡ (set.walk.down.bottom.0, Some (row.Inode (with_mode bits set.walk.down.bottom.1))) ∷ []
+  answer_mode : (bits : ℕ) → length place.path ≢ 0 → is_locked locked set.walk.down.bottom.0 ≡ true → (reply : Reply) (writes : List (Key × Option Row)) → reply ≡ Truth true → writes ≡ (set.walk.down.bottom.0, Some (row.Inode (row_with_mode bits set.walk.down.bottom.1))) ∷ []
       → IsAnswer tables space client user (call.Chmod place.path bits) view reply writes
   answer_mode bits some lock reply writes granted_is written_is =
       let same : set.walk.down.at.there.row ≡ set.walk.down.bottom.1 = set.walk.down.at.there.whole lock in
-      changed tables view space set.tree set.names set.stands set.counts set.walk.down.bottom.0 set.walk.down.at.there.row (with_mode bits set.walk.down.at.there.row) set.walk.down.at.there.there place.path (own_row tables view.next.0 space locked view.quotas.items place set whole) (λ e. some (ap (λ (p : Path). length p) e))
+      changed tables view space set.tree set.names set.stands set.counts set.walk.down.bottom.0 set.walk.down.at.there.row (row_with_mode bits set.walk.down.at.there.row) set.walk.down.at.there.there place.path (own_row tables view.next.0 space locked view.quotas.items place set whole) (λ e. some (ap (λ (p : Path). length p) e))
       refl refl (set.tree.dirs set.walk.down.bottom.0 set.walk.down.at.there.row set.walk.down.at.there.there) refl refl (same_bytes set.walk.down.at.there.row.kind set.walk.down.at.there.row (quota_of tables.quotas set.walk.down.at.there.row.id) bits)
       client user (call.Chmod place.path bits) reply writes (λ was is. refl) refl
       (chmod_there space place.path bits (entry_of tables.quotas set.walk.down.at.there.row) some (whole_entry tables bound space client user view place locked set whole)
       ∙ ap (λ (e : Entry). granted (with_entry space place.path e)) (entry_mode set.walk.down.at.there.row.kind set.walk.down.at.there.row (quota_of tables.quotas set.walk.down.at.there.row.id) bits))
       (ap as_read granted_is)
-      (written_is ∙ ap (λ (r : Inode). (set.walk.down.bottom.0, Some (row.Inode (with_mode bits r))) ∷ []) (sym same))
+      (written_is ∙ ap (λ (r : Inode). (set.walk.down.bottom.0, Some (row.Inode (row_with_mode bits r))) ∷ []) (sym same))
 
 -- ---- the outcomes
 

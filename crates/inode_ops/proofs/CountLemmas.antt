@@ -20,7 +20,7 @@ use Rattle.db_state.specs.QuotaWrites.{quota_writes}
 use Rattle.db_state.specs.QuotaWrites as quota_rows
 use Rattle.inode_ops.specs.declared.quotas.Change.{Change}
 use Rattle.inode_ops.specs.declared.quotas.Change.TheVariants.{More, Less}
-use Rattle.inode_ops.specs.QuotaSteps.{quota_in, has_id, is_written, CanCountIn, CanCount, quota_left, IsQuotaFound, AreQuotasFound, GoesOnCounted}
+use Rattle.inode_ops.specs.QuotaSteps.{quota_in, has_id, is_key_written, CanCountIn, CanCount, quota_left, IsQuotaFound, AreQuotasFound, GoesOnCounted}
 
 -- ---- one quota row
 
@@ -148,7 +148,7 @@ module _ (rows : List (Key × Inode)) (seen : List (InodeId × QuotaRow)) (chang
   grown = take_more rows i r low ∙ ap (λ (x : Key × Inode). take i rows ++ x ∷ []) (sym item)
 
   -- a quota key that is written, and not by the writes before, is among those that were counted
-  among : (id : InodeId) → list_any (same_key (key.Quota id)) (keys_of before) ≡ false → is_written writes.items (key.Quota id) ≡ true → quota_rows.is_written counting.goes.0 id ≡ true
+  among : (id : InodeId) → list_any (same_key (key.Quota id)) (keys_of before) ≡ false → is_key_written writes.items (key.Quota id) ≡ true → quota_rows.is_written counting.goes.0 id ≡ true
   among id new wrote =
       sym (
       any_key (key.Quota id) writes.items
@@ -159,7 +159,7 @@ module _ (rows : List (Key × Inode)) (seen : List (InodeId × QuotaRow)) (chang
       ∙ any_written change counting.goes.0 id)
       ∙ wrote
 
-  skips : ((quota : QuotaRow) → quota_in seen r.1.id ≡ Some quota → is_written writes.items (key.Quota r.1.id) ≡ true) → IsCounting rows seen change before (i + 1) writes
+  skips : ((quota : QuotaRow) → quota_in seen r.1.id ≡ Some quota → is_key_written writes.items (key.Quota r.1.id) ≡ true) → IsCounting rows seen change before (i + 1) writes
   skips wrote = record {
     goes = (
       counting.goes.0,
@@ -189,14 +189,14 @@ module _ (rows : List (Key × Inode)) (seen : List (InodeId × QuotaRow)) (chang
       }
 
   -- a row, whether it adds its quota row or not
-  pub counting_next : (after : Roomy (Key × Option Row)) → after ≡ record writes { items = writes.items ++ quota_writes change (quota_left r.1.id (quota_in seen r.1.id) (is_written writes.items (key.Quota r.1.id))) }
+  pub counting_next : (after : Roomy (Key × Option Row)) → after ≡ record writes { items = writes.items ++ quota_writes change (quota_left r.1.id (quota_in seen r.1.id) (is_key_written writes.items (key.Quota r.1.id))) }
       → IsCounting rows seen change before (i + 1) after
-  counting_next after is = by_cases (quota_in seen r.1.id) (is_written writes.items (key.Quota r.1.id)) refl refl is
+  counting_next after is = by_cases (quota_in seen r.1.id) (is_key_written writes.items (key.Quota r.1.id)) refl refl is
     where
       stays : (after : Roomy (Key × Option Row)) → after ≡ record writes { items = writes.items ++ [] } → after ≡ writes
       stays after is = is ∙ ap (λ (items : List (Key × Option Row)). record { items = items; room = writes.room }) (append-nil writes.items)
 
-      by_cases : (quota : Option QuotaRow) (done : Bool) → quota_in seen r.1.id ≡ quota → is_written writes.items (key.Quota r.1.id) ≡ done
+      by_cases : (quota : Option QuotaRow) (done : Bool) → quota_in seen r.1.id ≡ quota → is_key_written writes.items (key.Quota r.1.id) ≡ done
           → after ≡ record writes { items = writes.items ++ quota_writes change (quota_left r.1.id quota done) } → IsCounting rows seen change before (i + 1) after
       by_cases None done q w is = subst (IsCounting rows seen change before (i + 1)) (sym (stays after is)) (skips (λ quota was. absurd (let bad : None ≡ Some quota = sym q ∙ was in cc)))
       by_cases (Some quota) true q w is = subst (IsCounting rows seen change before (i + 1)) (sym (stays after is)) (skips (λ _ was. w))

@@ -21,7 +21,7 @@ use Rattle.db_state.specs.Recounted.{IsRecounted, names_more}
 use Rattle.db_state.proofs.ChainLaws.{paths_below-length}
 use Rattle.db_state.proofs.CountLaws.{Uses}
 use Rattle.db_state.proofs.GrowthLaws.{StaysSpelled, still_grown, still_chained, uses_made, counts_grown, none_at, missing_is}
-use Rattle.inode_ops.specs.NewFile.{new_file, new_file_rows}
+use Rattle.inode_ops.specs.NewFile.{file_row, new_file_rows}
 use Rattle.inode_ops.proofs.FileLaws.{chain_end, first_missing, made_tree, filed_rows, tree_filed}
 
 -- the rows that paths spell are spelled by them still
@@ -31,7 +31,7 @@ still_filed names tables next tree dir parent owner last client at is_dir none u
     let low = chain_end names tables next tree dir parent owner last at is_dir none in
     let made : Inodes = (written tables (new_dirs parent.id.0 next owner names)).inodes in
     subst (λ (inodes : Inodes). spelled inodes up ≡ Some x) (filed_rows names tables next tree dir parent owner last client at is_dir none low.0 low.1.numbered)
-    (still_grown made (next + length names) (made_tree names tables next tree dir parent owner last client at is_dir none) (reverse (reverse dir ++ names)) low.0 last (new_file (next + length names) client owner) low.1.there low.1.free (omega arith) up x
+    (still_grown made (next + length names) (made_tree names tables next tree dir parent owner last client at is_dir none) (reverse (reverse dir ++ names)) low.0 last (file_row (next + length names) client owner) low.1.there low.1.free (omega arith) up x
     (still_chained names tables next tree dir parent owner at is_dir (first_missing names tables.inodes parent.id last none) up x e))
 
 -- each path that exists and that the file's path lies within uses as many names more as are missing, and no path more bytes

@@ -16,7 +16,7 @@ use Rattle.name_space.proofs.NamespaceLaws.{entry_at-with_entry}
 use Rattle.inode_table.specs.declared.inode.Inode.{Inode}
 use Rattle.inode_table.specs.declared.inode.Kind.TheVariants.{Dir}
 use Rattle.commit_log.specs.Ids.{Numbering, with_new}
-use Rattle.db_state.specs.State.{Tables, new_dir}
+use Rattle.db_state.specs.State.{Tables, dir_row}
 use Rattle.db_state.specs.Spelled.{Inodes, spelled, IsTree, AreGiven}
 use Rattle.db_state.specs.Stands.{Quotas, entry_of, Stands}
 use Rattle.db_state.specs.Consistent.{flag_at}
@@ -25,31 +25,31 @@ use Rattle.db_state.specs.Written.{written, next_after}
 use Rattle.db_state.specs.declared.writes.Row.{Row}
 use Rattle.db_state.specs.declared.writes.Row.TheVariants as row
 use Rattle.db_state.specs.NewDirs.{new_dirs, paths_below, FirstMissing, Unremoved}
-use Rattle.inode_ops.specs.NewFile.{new_file, new_file_rows, last_dir}
+use Rattle.inode_ops.specs.NewFile.{file_row, new_file_rows, last_dir}
 use Rattle.db_state.proofs.PathLaws.{same_id, tree_grown}
 use Rattle.db_state.proofs.StandLaws.{stands_grown}
 use Rattle.db_state.proofs.WrittenLaws.{written-append, next_after-append}
-use Rattle.db_state.proofs.ChainLaws.{with_inode, reverse-push, new_spelled, under_new, next_chained, paths_below-length, tree_chained, stands_chained, quotas_chained, flags_chained}
+use Rattle.db_state.proofs.ChainLaws.{with_inode, reverse-push, first_made, next_chained, paths_below-length, tree_chained, stands_chained, quotas_chained, flags_chained}
 use Rattle.db_state.proofs.NumberLaws.{given_grown, given_chained, next_with_new}
 
 -- ---- the writes
 
 -- the rows of the directories come first, and then the file's
 pub new_file_rows-last : (names : List (List ℕ)) (parent next : ℕ) (owner last : List ℕ) (client : ClientNo)
-    → new_file_rows parent next owner names last client ≡ new_dirs parent next owner names ++ (key.Inode (record { 0 = last_dir parent next names }) last, Some (row.Inode (new_file (next + length names) client owner))) ∷ []
-new_file_rows-last [] parent next owner last client = ap (λ (n : ℕ). (key.Inode (record { 0 = parent }) last, Some (row.Inode (new_file n client owner))) ∷ []) (sym (add-zero next))
+    → new_file_rows parent next owner names last client ≡ new_dirs parent next owner names ++ (key.Inode (record { 0 = last_dir parent next names }) last, Some (row.Inode (file_row (next + length names) client owner))) ∷ []
+new_file_rows-last [] parent next owner last client = ap (λ (n : ℕ). (key.Inode (record { 0 = parent }) last, Some (row.Inode (file_row n client owner))) ∷ []) (sym (add-zero next))
 new_file_rows-last (name ∷ names) parent next owner last client =
     let sum : next + 1 + length names ≡ next + suc (length names) = omega arith in
-    ap (λ (ws : List (Key × Option Row)). (key.Inode (record { 0 = parent }) name, Some (row.Inode (new_dir next owner))) ∷ ws)
+    ap (λ (ws : List (Key × Option Row)). (key.Inode (record { 0 = parent }) name, Some (row.Inode (dir_row next owner))) ∷ ws)
     (new_file_rows-last names next (next + 1) owner last client
-    ∙ ap (λ (n : ℕ). new_dirs next (next + 1) owner names ++ (key.Inode (record { 0 = last_dir next (next + 1) names }) last, Some (row.Inode (new_file n client owner))) ∷ []) sum)
+    ∙ ap (λ (n : ℕ). new_dirs next (next + 1) owner names ++ (key.Inode (record { 0 = last_dir next (next + 1) names }) last, Some (row.Inode (file_row n client owner))) ∷ []) sum)
 
 -- the tables once the directories are there have the file's row added
 pub written_file : (names : List (List ℕ)) (tables : Tables) (parent next : ℕ) (owner last : List ℕ) (client : ClientNo)
-    → written tables (new_file_rows parent next owner names last client) ≡ record { inodes = map.insert (written tables (new_dirs parent next owner names)).inodes (key.Inode (record { 0 = last_dir parent next names }) last) (new_file (next + length names) client owner); quotas = (written tables (new_dirs parent next owner names)).quotas }
+    → written tables (new_file_rows parent next owner names last client) ≡ record { inodes = map.insert (written tables (new_dirs parent next owner names)).inodes (key.Inode (record { 0 = last_dir parent next names }) last) (file_row (next + length names) client owner); quotas = (written tables (new_dirs parent next owner names)).quotas }
 written_file names tables parent next owner last client =
     ap (written tables) (new_file_rows-last names parent next owner last client)
-    ∙ written-append (new_dirs parent next owner names) ((key.Inode (record { 0 = last_dir parent next names }) last, Some (row.Inode (new_file (next + length names) client owner))) ∷ []) tables
+    ∙ written-append (new_dirs parent next owner names) ((key.Inode (record { 0 = last_dir parent next names }) last, Some (row.Inode (file_row (next + length names) client owner))) ∷ []) tables
 
 -- the quota rows stay
 pub quotas_filed : (names : List (List ℕ)) (tables : Tables) (parent next : ℕ) (owner last : List ℕ) (client : ClientNo) → (written tables (new_file_rows parent next owner names last client)).quotas ≡ tables.quotas
@@ -58,7 +58,7 @@ quotas_filed names tables parent next owner last client = ap (λ (t : Tables). t
 -- new directories and a file below them take an id for each of their names
 pub next_filed : (names : List (List ℕ)) (parent next : ℕ) (owner last : List ℕ) (client : ClientNo) → next_after next (new_file_rows parent next owner names last client) ≡ next + length names + 1
 next_filed names parent next owner last client =
-    let file : List (Key × Option Row) = (key.Inode (record { 0 = last_dir parent next names }) last, Some (row.Inode (new_file (next + length names) client owner))) ∷ [] in
+    let file : List (Key × Option Row) = (key.Inode (record { 0 = last_dir parent next names }) last, Some (row.Inode (file_row (next + length names) client owner))) ∷ [] in
     let here : max (next + length names) (next + length names + 1) ≡ next + length names + 1 = omega arith in
     ap (next_after next) (new_file_rows-last names parent next owner last client)
     ∙ next_after-append (new_dirs parent next owner names) file next
@@ -82,12 +82,10 @@ chain_end [] tables next tree dir parent owner last at is_dir none =
     (parent, record { there = ap (spelled tables.inodes) path ∙ at; folder = is_dir; numbered = refl; free = none })
 chain_end (name ∷ names) tables next tree dir parent owner last at is_dir none =
     let inodes : Inodes = tables.inodes in
-    let new : Inode = new_dir next owner in
+    let new : Inode = dir_row next owner in
     let after : Tables = with_inode tables parent name new in
-    let free : next ≤ new.id.0 = omega arith in
-    let grown = tree_grown inodes next tree dir parent name new at none free is_dir (λ dir. (refl, refl)) in
-    let there = new_spelled inodes next tree dir parent name new at none free in
-    let rest = chain_end names after (next + 1) grown (name ∷ dir) new owner last there refl (under_new (names ++ last ∷ []) inodes next tree dir parent name new at none free) in
+    let made = first_made (names ++ last ∷ []) inodes next tree dir parent name owner at none is_dir in
+    let rest = chain_end names after (next + 1) made.tree (name ∷ dir) new owner last made.there refl made.below in
     let path : reverse (name ∷ dir) ++ names ≡ reverse dir ++ name ∷ names = ap (λ (p : Path). p ++ names) (reverse-push name dir) ∙ append_assoc (reverse dir) (name ∷ []) names in
     (rest.0, subst (λ (p : Path). IsEnd (written after (new_dirs next (next + 1) owner names)).inodes (reverse p) (last_dir next (next + 1) names) last rest.0) path rest.1)
 
@@ -154,10 +152,10 @@ module _ (names : List (List ℕ)) (tables : Tables) (next : ℕ) (tree : IsTree
 
   -- a row under the last directory's id is one under it
   pub filed_rows : (lowest : Inode) → lowest.id.0 ≡ last_dir parent.id.0 next names
-      → map.insert (written tables (new_dirs parent.id.0 next owner names)).inodes (key.Inode lowest.id last) (new_file (next + length names) client owner) ≡ (written tables (new_file_rows parent.id.0 next owner names last client)).inodes
+      → map.insert (written tables (new_dirs parent.id.0 next owner names)).inodes (key.Inode lowest.id last) (file_row (next + length names) client owner) ≡ (written tables (new_file_rows parent.id.0 next owner names last client)).inodes
   filed_rows lowest same =
       let ids : lowest.id ≡ record { 0 = last_dir parent.id.0 next names } = same_id lowest.id (record { 0 = last_dir parent.id.0 next names }) same in
-      ap (λ (i : InodeId). map.insert (written tables (new_dirs parent.id.0 next owner names)).inodes (key.Inode i last) (new_file (next + length names) client owner)) ids
+      ap (λ (i : InodeId). map.insert (written tables (new_dirs parent.id.0 next owner names)).inodes (key.Inode i last) (file_row (next + length names) client owner)) ids
       ∙ sym (ap (λ (t : Tables). t.inodes) (written_file names tables parent.id.0 next owner last client))
 
   -- the rows spell a tree
@@ -165,7 +163,7 @@ module _ (names : List (List ℕ)) (tables : Tables) (next : ℕ) (tree : IsTree
   tree_filed =
       let low = chain_end names tables next tree dir parent owner last at is_dir none in
       subst (λ (inodes : Inodes). IsTree inodes (next + length names + 1)) (filed_rows low.0 low.1.numbered)
-      (tree_grown (written tables (new_dirs parent.id.0 next owner names)).inodes (next + length names) made_tree (reverse (reverse dir ++ names)) low.0 last (new_file (next + length names) client owner) low.1.there low.1.free (omega arith) low.1.folder (λ dir. absurd (let bad = dir in cc)))
+      (tree_grown (written tables (new_dirs parent.id.0 next owner names)).inodes (next + length names) made_tree (reverse (reverse dir ++ names)) low.0 last (file_row (next + length names) client owner) low.1.there low.1.free (omega arith) low.1.folder (λ dir. absurd (let bad = dir in cc)))
 
   -- they bear the flags that they bore
   pub flags_filed : (k : Key) → flag_at (written tables (new_file_rows parent.id.0 next owner names last client)).inodes k ≡ flag_at tables.inodes k
@@ -173,7 +171,7 @@ module _ (names : List (List ℕ)) (tables : Tables) (next : ℕ) (tree : IsTree
       let low = chain_end names tables next tree dir parent owner last at is_dir none in
       let absent : None ≡ flag_at made (key.Inode low.0.id last) = sym (ap (option_and_then (λ (r : Inode). r.flag)) low.1.free) in
       ap (λ (inodes : Inodes). flag_at inodes k) (sym (filed_rows low.0 low.1.numbered))
-      ∙ flags_with made (key.Inode low.0.id last) (new_file (next + length names) client owner) absent k
+      ∙ flags_with made (key.Inode low.0.id last) (file_row (next + length names) client owner) absent k
       ∙ flags_chained names tables next tree dir parent owner at is_dir (first_missing names tables.inodes parent.id last none) k
 
   -- the file's path
@@ -187,7 +185,7 @@ module _ (names : List (List ℕ)) (tables : Tables) (next : ℕ) (tree : IsTree
       let ups : List Path = paths_below (reverse dir) names in
       let before : Numbering = with_new numbering ups in
       let chained = given_chained names tables next tree dir parent owner at is_dir (first_missing names tables.inodes parent.id last none) numbering same given in
-      let grown = given_grown (written tables (new_dirs parent.id.0 next owner names)).inodes (next + length names) made_tree (reverse (reverse dir ++ names)) low.0 last (new_file (next + length names) client owner) low.1.there low.1.free (omega arith) before chained in
+      let grown = given_grown (written tables (new_dirs parent.id.0 next owner names)).inodes (next + length names) made_tree (reverse (reverse dir ++ names)) low.0 last (file_row (next + length names) client owner) low.1.there low.1.free (omega arith) before chained in
       let number : next + length names ≡ before.next = sym (next_with_new ups numbering ∙ (λ i. same i + paths_below-length names (reverse dir) i)) in
       let as_put : record { ids = map.Entries.put path_cmp (reverse (last ∷ reverse (reverse dir ++ names))) (next + length names) before.ids; next = before.next + 1 } ≡ with_new numbering (paths_below (reverse dir) (names ++ last ∷ [])) =
       ap (λ (p : Path). record { ids = map.Entries.put path_cmp p (next + length names) before.ids; next = before.next + 1 }) path_is
@@ -204,7 +202,7 @@ module _ (names : List (List ℕ)) (tables : Tables) (next : ℕ) (tree : IsTree
       let low = chain_end names tables next tree dir parent owner last at is_dir none in
       let ups : List Path = paths_below (reverse dir) names in
       let path : Path = reverse dir ++ (names ++ last ∷ []) in
-      let new : Inode = new_file (next + length names) client owner in
+      let new : Inode = file_row (next + length names) client owner in
       let split : paths_below (reverse dir) (names ++ last ∷ []) ≡ ups ++ path ∷ [] = paths_below-last names (reverse dir) last in
       let apart = unremoved_both ups removed path (subst (Unremoved removed) split unremoved) in
       let chained = stands_chained names tables next tree quotas removed space stands dir parent owner at is_dir (first_missing names tables.inodes parent.id last none) apart.0 in

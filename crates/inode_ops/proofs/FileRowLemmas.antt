@@ -22,9 +22,9 @@ use Rattle.db_state.specs.declared.view.View.{View}
 use Rattle.db_state.specs.declared.outcome.Outcome.{Outcome}
 use Rattle.db_state.specs.declared.writes.Row.{Row}
 use Rattle.db_state.specs.NewDirs.{new_dirs}
-use Rattle.inode_ops.specs.NewFile.{new_file, new_file_rows, last_dir}
+use Rattle.inode_ops.specs.NewFile.{file_row, new_file_rows, last_dir}
 use Rattle.inode_ops.proofs.CountLemmas.{HasNoQuotas}
-use Rattle.inode_ops.proofs.MadeLemmas.{is_above, fresh_key}
+use Rattle.inode_ops.proofs.MadeLemmas.{is_numbered_below, fresh_key}
 
 -- the last of new directories has the last of their ids
 pub last_dir-count : (parent next : ℕ) (names : List (List ℕ)) → length names ≢ 0 → last_dir parent next names ≡ next + (length names - 1)
@@ -34,7 +34,7 @@ last_dir-count parent next (name ∷ other ∷ names) some =
     let rest = last_dir-count next (next + 1) (other ∷ names) (λ zero. let bad = zero in omega arith) in
     rest ∙ (omega arith)
 
-past_all : (names : List (List ℕ)) (parent next : ℕ) (owner : List ℕ) → parent < next → (parent ≤ last_dir parent next names) × (list_all (is_above (last_dir parent next names)) (keys_of (new_dirs parent next owner names)) ≡ true)
+past_all : (names : List (List ℕ)) (parent next : ℕ) (owner : List ℕ) → parent < next → (parent ≤ last_dir parent next names) × (list_all (is_numbered_below (last_dir parent next names)) (keys_of (new_dirs parent next owner names)) ≡ true)
 past_all [] parent next owner below = (omega arith, refl)
 past_all (name ∷ names) parent next owner below =
     let rest = past_all names next (next + 1) owner (omega arith) in
@@ -55,7 +55,7 @@ fresh_file id parent next owner last names writes is below are =
 
 -- with the file's row they are all rows of the new file
 pub file_pushed : (id : InodeId) (parent next : ℕ) (owner last : List ℕ) (names : List (List ℕ)) (client : ClientNo) (file : Inode) (writes after : List (Key × Option Row)) → id.0 ≡ last_dir parent next names → writes ≡ new_dirs parent next owner names
-    → file ≡ new_file (next + length names) client owner → after ≡ writes ++ (key.Inode id last, Some (row.Inode file)) ∷ [] → after ≡ new_file_rows parent next owner names last client
+    → file ≡ file_row (next + length names) client owner → after ≡ writes ++ (key.Inode id last, Some (row.Inode file)) ∷ [] → after ≡ new_file_rows parent next owner names last client
 file_pushed id parent next owner last names client file writes after is are file_is after_is =
     let ids : id ≡ record { 0 = last_dir parent next names } = same_id id (record { 0 = last_dir parent next names }) is in
     after_is ∙ (λ i. are i ++ (key.Inode (ids i) last, Some (row.Inode (file_is i))) ∷ []) ∙ sym (new_file_rows-last names parent next owner last client)

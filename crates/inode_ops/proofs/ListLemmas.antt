@@ -19,7 +19,7 @@ use Rattle.name_space.specs.Plain.{told, listed, listing, list_at}
 use Rattle.inode_table.specs.declared.inode.Inode.{Inode}
 use Rattle.inode_table.specs.declared.inode.Kind.{Kind}
 use Rattle.inode_table.specs.declared.inode.Kind.TheVariants.{Dir, File}
-use Rattle.inode_table.specs.Inode.{is_dir}
+use Rattle.inode_table.specs.Inode.{is_dir_kind}
 use Rattle.quota_table.specs.declared.quota.QuotaRow.{QuotaRow}
 use Rattle.db_state.specs.State.{Tables}
 use Rattle.db_state.specs.Spelled.{Inodes}
@@ -63,8 +63,8 @@ no_last (name ∷ other ∷ path) e =
 told_children : (inodes : Inodes) (place : Place) (row : Inode) → is_whole place ≡ true → deepest place ≡ Some row → row.kind ≡ Dir → children_told inodes (call.List place.path) (place ∷ []) ≡ listed_under inodes row.id
 told_children inodes place row whole last dir =
     let found : Rattle.db_state.specs.Plan.own_row place ≡ Some row = ap (λ (b : Bool). if b then deepest place else None) whole ∙ last in
-    ap (λ (o : Option Inode). flat_map (λ (r : Inode). listed_under inodes r.id) (filter (λ (r : Inode). is_dir r.kind) (option_to_list o)) ++ []) found
-    ∙ ap (λ (b : Bool). flat_map (λ (r : Inode). listed_under inodes r.id) (if b then row ∷ [] else []) ++ []) (ap is_dir dir)
+    ap (λ (o : Option Inode). flat_map (λ (r : Inode). listed_under inodes r.id) (filter (λ (r : Inode). is_dir_kind r.kind) (option_to_list o)) ++ []) found
+    ∙ ap (λ (b : Bool). flat_map (λ (r : Inode). listed_under inodes r.id) (if b then row ∷ [] else []) ++ []) (ap is_dir_kind dir)
     ∙ append-nil (listed_under inodes row.id ++ []) ∙ append-nil (listed_under inodes row.id)
 
 module _ (tables : Tables) (bound : ℕ) (space : Namespace) (client : ClientNo) (user : List ℕ) (view : View) (place : Place) (locked : List (Key × Mode)) (set : IsSet tables view.next.0 space locked view.quotas.items place) (whole : is_whole place ≡ true) where

@@ -44,7 +44,7 @@ use Rattle.db_state.specs.NewDirs.{new_dirs}
 use Rattle.db_state.specs.QuotaWrites.{quota_writes, raised}
 use Rattle.inode_ops.specs.Outcomes.{path_of, Suits, IsViewOf}
 use Rattle.inode_ops.specs.QuotaSteps.{first_full, AreQuotasFound}
-use Rattle.inode_ops.specs.Steps.{status_of, status_of_kind, missing_names, IsMadeUnless, MkdirsOf, AnswersMkdirs, StatOf, AnswersStat}
+use Rattle.inode_ops.specs.Steps.{row_status, status_of_kind, missing_names, IsMadeUnless, MkdirsOf, AnswersMkdirs, StatOf, AnswersStat}
 use Rattle.db_state.specs.CallsTable.{IsBefore, IsAnswer, IsCallsTable}
 use Rattle.inode_ops.proofs.CountLemmas.{all_found}
 use Rattle.inode_ops.proofs.MissingLemmas.{dirs_new}
@@ -213,8 +213,8 @@ module _ (tables : Tables) (bound : ℕ) (space : Namespace) (client : ClientNo)
       kept (call.Stat place.path) reply (Refused FileNotFound) writes.items refl (ap (stat_at space) (partial_entry whole)) (ap Rattle.name_space.specs.Calls.as_read is.0) is.1
   answer_stat lock reply writes true whole is =
       let same : set.walk.down.at.there.row ≡ set.walk.down.bottom.1 = set.walk.down.at.there.whole lock in
-      let status = status_is set.walk.down.at.there.row.kind set.walk.down.at.there.row (quota_of tables.quotas set.walk.down.at.there.row.id) ∙ ap (λ (row : Inode). Status (status_of row)) same in
-      kept (call.Stat place.path) reply (Status (status_of set.walk.down.bottom.1)) writes.items refl (ap (stat_at space) (whole_entry whole) ∙ ap (λ (r : Reply). told r space) status) (ap Rattle.name_space.specs.Calls.as_read is.0) is.1
+      let status = status_is set.walk.down.at.there.row.kind set.walk.down.at.there.row (quota_of tables.quotas set.walk.down.at.there.row.id) ∙ ap (λ (row : Inode). Status (row_status row)) same in
+      kept (call.Stat place.path) reply (Status (row_status set.walk.down.bottom.1)) writes.items refl (ap (stat_at space) (whole_entry whole) ∙ ap (λ (r : Reply). told r space) status) (ap Rattle.name_space.specs.Calls.as_read is.0) is.1
 
 -- ---- the outcomes
 

@@ -67,8 +67,8 @@ abbrev pub has_id : List (Key × Inode) → InodeId → Bool
 has_id rows id = list_any (λ (r : Key × Inode). r.1.id.0 == id.0) rows
 
 -- one of the writes is of this key
-abbrev pub is_written : List (Key × Option Row) → Key → Bool
-is_written writes k = list_any (λ (w : Key × Option Row). same_key k w.0) writes
+abbrev pub is_key_written : List (Key × Option Row) → Key → Bool
+is_key_written writes k = list_any (λ (w : Key × Option Row). same_key k w.0) writes
 
 -- the quota row of a directory with its id, unless it has none or was written
 abbrev pub quota_left : InodeId → Option QuotaRow → Bool → List (InodeId × QuotaRow)

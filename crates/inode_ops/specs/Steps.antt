@@ -20,8 +20,8 @@ use Rattle.db_state.specs.QuotaWrites.{raised}
 use Rattle.inode_ops.specs.QuotaSteps.{first_full, GoesOnCounted}
 
 -- what is told of a row
-abbrev pub status_of : Inode → FileStatus
-status_of inode = status_of_kind inode.kind inode
+abbrev pub row_status : Inode → FileStatus
+row_status inode = status_of_kind inode.kind inode
 
 -- the outcome writes nothing, and tells this
 abbrev pub IsTold : Reply → Outcome → Type 0
@@ -67,7 +67,7 @@ AnswersMkdirs place quotas next owner outcome =
 
 -- what `stat` answers where this row is the last found, and the path is whole or not
 abbrev pub StatOf : Bool → Inode → Outcome → Type 0
-StatOf true last outcome = IsTold (Status (status_of last)) outcome
+StatOf true last outcome = IsTold (Status (row_status last)) outcome
 StatOf false last outcome = IsRefused FileNotFound outcome
 
 -- what `stat` answers

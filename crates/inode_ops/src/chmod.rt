@@ -3,7 +3,7 @@
 ghost use Rattle.std.specs.Prelude.{◌≡◌, ◌≤◌, length, IfOk};
 ghost use Rattle.name_space.specs.declared.call.Call.TheVariants as call;
 ghost use Rattle.db_state.specs.Plan.{last_found};
-ghost use Rattle.inode_ops.specs.ChmodSteps.{with_mode, IsModeSet};
+ghost use Rattle.inode_ops.specs.ChmodSteps.{row_with_mode, IsModeSet};
 ghost use Rattle.inode_ops.specs.Outcomes.{IsViewOf, IsTableOf, IsOwnOf};
 
 use crate::place::{is_whole, only_place};
@@ -45,7 +45,7 @@ fn set_mode(alloc: Global, place: &Place, mode: u16) -> Result<Outcome, NoMemory
 }
 
 fn with_mode(inode: &Inode, mode: u16) -> Result<Inode, NoMemory>
-    ensures { IfOk result (λ changed. changed ≡ with_mode mode inode.now) }
+    ensures { IfOk result (λ changed. changed ≡ row_with_mode mode inode.now) }
 {
     let mut changed = inode.copy()?;
     changed.mode = mode;

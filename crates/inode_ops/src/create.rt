@@ -4,7 +4,7 @@ ghost use Rattle.std.specs.Prelude.{◌≡◌, ◌+◌, ◌^◌, ◌<◌, ◌≤
 ghost use Rattle.name_space.specs.declared.call.Call.TheVariants as call;
 ghost use Rattle.db_state.specs.Current.{SpellsPlace};
 ghost use Rattle.db_state.specs.Locked.{WritesOwn};
-ghost use Rattle.inode_ops.specs.NewFile.{new_file, new_file_rows, last_dir};
+ghost use Rattle.inode_ops.specs.NewFile.{file_row, new_file_rows, last_dir};
 ghost use Rattle.inode_ops.specs.CreateSteps.{overwritten, AnswersCreate, MakesFile, Overwrites};
 ghost use Rattle.inode_ops.specs.Outcomes.{IsViewOf, CanMake, HasRoomUnlessFull};
 ghost use Rattle.db_state.specs.CallsTable.{IsCallsTable};
@@ -124,7 +124,7 @@ fn last_dir(parent: InodeId, next: InodeId, names: &[Name]) -> InodeId
 }
 
 fn new_file(id: InodeId, client: ClientNo, user: &User) -> Result<Inode, NoMemory>
-    ensures { IfOk result (λ inode. inode ≡ new_file id.0 client user.now) }
+    ensures { IfOk result (λ inode. inode ≡ file_row id.0 client user.now) }
 {
     Ok(Inode {
         id,

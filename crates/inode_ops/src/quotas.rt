@@ -6,7 +6,7 @@ ghost use Rattle.hops_base.specs.declared.key.Key.TheVariants as key;
 ghost use Rattle.inode_table.specs.declared.inode.Inode.{Inode};
 ghost use Rattle.name_space.specs.Namespace.{Path};
 ghost use Rattle.db_state.specs.QuotaWrites.{quota_writes};
-ghost use Rattle.inode_ops.specs.QuotaSteps.{quota_in, full_at, first_full, refusal, counted, is_written, quota_left, CanCountIn, CanCount, GoesOnCounted};
+ghost use Rattle.inode_ops.specs.QuotaSteps.{quota_in, full_at, first_full, refusal, counted, is_key_written, quota_left, CanCountIn, CanCount, GoesOnCounted};
 
 use db_state::{Place, Row, Writes};
 use hops_base::{InodeId, Key, Name, NoMemory, Path};
@@ -152,7 +152,7 @@ fn recount_row(writes: &mut Writes, quotas: &[(InodeId, QuotaRow)], id: InodeId,
     requires count { CanCount change quotas.now }
     ensures { writes.new ≡ record writes.old {
       items = writes.old.items ++
-          quota_writes (counted change) (quota_left id (quota_in quotas.now id) (is_written writes.old.items (key.Quota id)));
+          quota_writes (counted change) (quota_left id (quota_in quotas.now id) (is_key_written writes.old.items (key.Quota id)));
     } }
 {
     let Some(quota) = quota_in(quotas, id) else {
@@ -166,7 +166,7 @@ fn recount_row(writes: &mut Writes, quotas: &[(InodeId, QuotaRow)], id: InodeId,
 
 // Whether one of the writes is of this key.
 fn is_written(writes: &[(Key, Option<Row>)], key: &Key) -> bool
-    ensures { result ≡ is_written writes.now key.now }
+    ensures { result ≡ is_key_written writes.now key.now }
 {
     writes.iter().any(|write| *key == write.0)
 }

@@ -5,9 +5,9 @@ use Rattle.inode_table.specs.declared.inode.Kind.{Kind}
 use Rattle.inode_table.specs.declared.inode.Kind.TheVariants.{Dir, File}
 
 -- the inode is a directory
-abbrev pub is_dir : Kind → Bool
-is_dir Dir = true
-is_dir File = false
+abbrev pub is_dir_kind : Kind → Bool
+is_dir_kind Dir = true
+is_dir_kind File = false
 
 -- the bytes that an inode counts towards what is used: a file its length, a directory none
 abbrev pub counted_bytes : Kind → Inode → ℕ

@@ -40,6 +40,6 @@ replies_of space client user (call ∷ calls) =
     answered.reply ∷ replies_of answered.space client user calls
 
 -- the namespace after these calls
-abbrev pub space_after : Namespace → ClientNo → List ℕ → List Call → Namespace
-space_after space client user [] = space
-space_after space client user (call ∷ calls) = space_after (plain space client user call).space client user calls
+abbrev pub space_after_calls : Namespace → ClientNo → List ℕ → List Call → Namespace
+space_after_calls space client user [] = space
+space_after_calls space client user (call ∷ calls) = space_after_calls (plain space client user call).space client user calls

@@ -9,7 +9,7 @@ use Rattle.name_space.specs.declared.entry.FileStatus.TheVariants as status
 use Rattle.name_space.specs.declared.entry.Listed.{Listed}
 use Rattle.name_space.specs.declared.reply.Reply.{Reply}
 use Rattle.name_space.specs.Namespace.{Namespace, Path, opening}
-use Rattle.name_space.specs.Calls.{replies_of, space_after}
+use Rattle.name_space.specs.Calls.{replies_of, space_after_calls}
 
 -- the path with this text
 abbrev pub at : String → Path
@@ -33,11 +33,11 @@ are_answered run = are_answered_on opening 0 ann run
 
 -- the namespace after these calls, the first that are made, all by client 0
 abbrev pub after : List Call → Namespace
-after calls = space_after opening (client 0) ann calls
+after calls = space_after_calls opening (client 0) ann calls
 
 -- the namespace after calls of client 1 on a namespace
 abbrev pub after_bob : Namespace → List Call → Namespace
-after_bob space calls = space_after space (client 1) bob calls
+after_bob space calls = space_after_calls space (client 1) bob calls
 
 -- a name with the status of a directory of mode 493 of ann
 abbrev pub dir_named : String → Listed

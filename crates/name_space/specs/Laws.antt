@@ -11,7 +11,7 @@ use Rattle.name_space.specs.declared.reply.Reply.TheVariants.{Truth, Refused}
 use Rattle.name_space.specs.Call.{changes, paths_of}
 use Rattle.name_space.specs.Namespace.{Namespace, Path, IsNamespace, opening, entry_at, is_within, children, bytes_of, used_names, used_bytes}
 use Rattle.name_space.specs.Rename.{rename, target_of}
-use Rattle.name_space.specs.Calls.{plain, space_after}
+use Rattle.name_space.specs.Calls.{plain, space_after_calls}
 use Rattle.name_space.specs.Cut.{MayCut, cut}
 
 -- the namespace is the same after a refusal
@@ -50,7 +50,7 @@ UsageIsASum =
 abbrev pub CallsKeepANamespace : Type 0
 CallsKeepANamespace =
     (space : Namespace) (client : ClientNo) (user : List ℕ) (calls : List Call)
-    → IsNamespace space → list_all (λ (call : Call). list_all (list_all is_name) (paths_of call)) calls ≡ true → IsNamespace (space_after space client user calls)
+    → IsNamespace space → list_all (λ (call : Call). list_all (list_all is_name) (paths_of call)) calls ≡ true → IsNamespace (space_after_calls space client user calls)
 
 -- what a granted rename leaves: the source and the target that it goes to
 pub record IsMoved (space after : Namespace) (source target : Path) : Type 0 where

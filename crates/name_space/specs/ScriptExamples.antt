@@ -17,15 +17,15 @@ abbrev pub script : ℕ → List ClientCalls → List (NodeNo × ℕ) → ℕ �
 script namenodes clients stops tries grace = record { namenodes = namenodes; clients = clients; stops = stops; tries = tries; grace = grace; persist = true }
 
 -- a script in which client 0 is ann and makes two calls, and client 1 is bob and makes none
-abbrev pub two_clients : Script
-two_clients = script 2 (made_by ann (Mkdirs (at "/a") ∷ Stat (at "/a") ∷ []) ∷ made_by bob [] ∷ []) ((node 1, 1000000) ∷ (node 0, 1) ∷ []) 1 1000000
+abbrev pub two_client_script : Script
+two_client_script = script 2 (made_by ann (Mkdirs (at "/a") ∷ Stat (at "/a") ∷ []) ∷ made_by bob [] ∷ []) ((node 1, 1000000) ∷ (node 0, 1) ∷ []) 1 1000000
 
 -- clients are counted from 0, and their calls from 1
 pub record WhoCalls : Type 0 where
-  pub clients : map (λ (n : ℕ). client_of two_clients (client n)) (1 ∷ 2 ∷ []) ≡ Some (made_by bob []) ∷ None ∷ []
-  pub users : users_of two_clients ≡ ann ∷ bob ∷ []
-  pub calls : map (call_of two_clients (client 0)) (0 ∷ 1 ∷ 2 ∷ 3 ∷ []) ≡ None ∷ Some (Mkdirs (at "/a")) ∷ Some (Stat (at "/a")) ∷ None ∷ []
-  pub no_calls : map (λ (n : ℕ). call_of two_clients (client n) 1) (1 ∷ 2 ∷ []) ≡ None ∷ None ∷ []
+  pub clients : map (λ (n : ℕ). client_of two_client_script (client n)) (1 ∷ 2 ∷ []) ≡ Some (made_by bob []) ∷ None ∷ []
+  pub users : users_of two_client_script ≡ ann ∷ bob ∷ []
+  pub calls : map (call_of two_client_script (client 0)) (0 ∷ 1 ∷ 2 ∷ 3 ∷ []) ≡ None ∷ Some (Mkdirs (at "/a")) ∷ Some (Stat (at "/a")) ∷ None ∷ []
+  pub no_calls : map (λ (n : ℕ). call_of two_client_script (client n) 1) (1 ∷ 2 ∷ []) ≡ None ∷ None ∷ []
 
 -- what a script says of tries and beats where it says nothing
 pub record Defaults : Type 0 where
@@ -46,7 +46,7 @@ pub record PartsInRange : Type 0 where
 
 -- which scripts are within all ranges
 pub record ScriptCases : Type 0 where
-  pub two : IsScript two_clients
+  pub two : IsScript two_client_script
   pub smallest : IsScript (script 1 [] [] 1 1)
   pub largest : IsScript (script 16 (repeat 64 (quiet ∷ [])) ((node 15, 1) ∷ []) 1000000 1000000)
   pub no_namenode : ¬ (IsScript (script 0 [] [] 1 1))

@@ -15,7 +15,7 @@ abbrev pub IsPassed : ℕ → ℕ → Option ℕ → ℕ → ℕ → Type 0
 IsPassed used more limit told_used told_limit = (limit ≡ Some told_limit) × (told_used ≡ used) × (exceeds used more told_limit ≡ true)
 
 -- what is answered to so many names and bytes more: names first, then bytes
-abbrev pub Answers : QuotaRow → ℕ → ℕ → Fit → Type 0
-Answers row names bytes Fits = (is_passed row.used_names names row.max_names ≡ false) × (is_passed row.used_bytes bytes row.max_bytes ≡ false)
-Answers row names bytes (Names used limit) = IsPassed row.used_names names row.max_names used limit
-Answers row names bytes (Bytes used limit) = (is_passed row.used_names names row.max_names ≡ false) × IsPassed row.used_bytes bytes row.max_bytes used limit
+abbrev pub IsFit : QuotaRow → ℕ → ℕ → Fit → Type 0
+IsFit row names bytes Fits = (is_passed row.used_names names row.max_names ≡ false) × (is_passed row.used_bytes bytes row.max_bytes ≡ false)
+IsFit row names bytes (Names used limit) = IsPassed row.used_names names row.max_names used limit
+IsFit row names bytes (Bytes used limit) = (is_passed row.used_names names row.max_names ≡ false) × IsPassed row.used_bytes bytes row.max_bytes used limit

@@ -2,7 +2,7 @@
 
 ghost use Rattle.std.specs.Prelude.{◌≡◌, ◌+◌, ◌-◌, ◌<◌, ◌≤◌, ◌^◌};
 ghost use Rattle.name_space.specs.Quota.{exceeds};
-ghost use Rattle.quota_table.specs.Quota.{Answers};
+ghost use Rattle.quota_table.specs.Quota.{IsFit};
 
 use row_store::Table;
 
@@ -35,7 +35,7 @@ impl QuotaRow {
     /// Whether so many names and bytes more would fit. A quota is passed only by what adds to it, and names
     /// are tested first.
     pub fn fits(&self, names: u64, bytes: u64) -> Fit
-        ensures { Answers self.now names bytes result }
+        ensures { IsFit self.now names bytes result }
     {
         if let Some(limit) = self.max_names
             && is_over(self.used_names, names, limit)

@@ -13,8 +13,8 @@ use Rattle.script_text.specs.Form.{path_data}
 use Rattle.report_text.specs.OneReport.{are_of_names}
 
 -- the value at a place of an array
-abbrev pub value_at : ℕ → Data → Data
-value_at i value = unwrap_or (at i value) null
+abbrev pub value_placed : ℕ → Data → Data
+value_placed i value = unwrap_or (at i value) null
 
 -- the value at a key of an object
 abbrev pub field_at : String → Data → Data
@@ -25,8 +25,8 @@ abbrev pub has_field : String → Data → Bool
 has_field key value = is_some (get (codes key) value)
 
 -- the path that a value spells
-abbrev pub path_in : Data → List (List ℕ)
-path_in value = names_in (text_in value)
+abbrev pub path_said : Data → List (List ℕ)
+path_said value = names_in (text_in value)
 
 -- what stands under the word of a value
 abbrev pub under : {X : Type 0} → X → Data → List (String × X) → X
@@ -55,5 +55,5 @@ pub path_back : (path : List (List ℕ)) (rest : List (List (List ℕ))) → are
 path_back path rest named = names_spelled path (and_parts (list_all is_name path) (are_of_names rest) named).0
 
 -- each of them
-pub paths_back : (paths : List (List (List ℕ))) → are_of_names paths ≡ true → map path_in (values_in (row (map path_data paths))) ≡ paths
-paths_back = row_back_of path_data path_in (λ path. list_all is_name path) names_spelled
+pub paths_back : (paths : List (List (List ℕ))) → are_of_names paths ≡ true → map path_said (values_in (row (map path_data paths))) ≡ paths
+paths_back = row_back_of path_data path_said (λ path. list_all is_name path) names_spelled

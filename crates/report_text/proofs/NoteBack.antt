@@ -29,8 +29,8 @@ use Rattle.report_text.specs.Keys.{key_data, mode_data}
 use Rattle.report_text.specs.Notes.{kind_data, work_data, cause_data, ended_data, note_data}
 use Rattle.report_text.specs.OneReport.{are_of_names, paths_in_reply, paths_in_work, paths_in_end, note_of_names, answer_of_names, note_as_read, end_as_read, answer_as_read}
 use Rattle.report_text.specs.Report.{notes_data}
-use Rattle.report_text.proofs.Decoding.{value_at, path_in, under, path_back, paths_back}
-use Rattle.report_text.proofs.ReplyBack.{reply_in, reply_back}
+use Rattle.report_text.proofs.Decoding.{value_placed, path_said, under, path_back, paths_back}
+use Rattle.report_text.proofs.ReplyBack.{reply_said, reply_back}
 use Rattle.report_text.proofs.ScriptBack.{call_in, call_back}
 
 -- ---- the parts of notes
@@ -46,12 +46,12 @@ mode_back Exclusive = refl
 -- the key that a value says
 abbrev key_in : Data → Key
 key_in value =
-    under key.Gate (value_at 0 value) (
-    ("inode", key.Inode (record { 0 = number_in (value_at 1 value) }) (text_in (value_at 2 value)))
-    ∷ ("quota", key.Quota (record { 0 = number_in (value_at 1 value) }))
-    ∷ ("lease", key.Lease (record { 0 = number_in (value_at 1 value) }) (record { 0 = number_in (value_at 2 value) }))
-    ∷ ("reply", key.Reply (record { 0 = number_in (value_at 1 value) }))
-    ∷ ("ongoing", key.Ongoing (record { 0 = number_in (value_at 1 value) }))
+    under key.Gate (value_placed 0 value) (
+    ("inode", key.Inode (record { 0 = number_in (value_placed 1 value) }) (text_in (value_placed 2 value)))
+    ∷ ("quota", key.Quota (record { 0 = number_in (value_placed 1 value) }))
+    ∷ ("lease", key.Lease (record { 0 = number_in (value_placed 1 value) }) (record { 0 = number_in (value_placed 2 value) }))
+    ∷ ("reply", key.Reply (record { 0 = number_in (value_placed 1 value) }))
+    ∷ ("ongoing", key.Ongoing (record { 0 = number_in (value_placed 1 value) }))
     ∷ []
     )
 
@@ -75,9 +75,9 @@ kind_back kind.Quota = refl
 -- the step that a value says
 abbrev work_in : Data → Work
 work_in value =
-    under (Reclaim (record { 0 = number_in (value_at 1 value) })) (value_at 0 value) (
-    ("flag", Flag (record { 0 = number_in (value_at 1 value) }) (kind_in (value_at 2 value)) (path_in (value_at 3 value)))
-    ∷ ("batch", Batch (record { 0 = number_in (value_at 1 value) }))
+    under (Reclaim (record { 0 = number_in (value_placed 1 value) })) (value_placed 0 value) (
+    ("flag", Flag (record { 0 = number_in (value_placed 1 value) }) (kind_in (value_placed 2 value)) (path_said (value_placed 3 value)))
+    ∷ ("batch", Batch (record { 0 = number_in (value_placed 1 value) }))
     ∷ []
     )
 
@@ -89,10 +89,10 @@ work_back (Reclaim op) named = refl
 -- the conflict that a value says
 abbrev cause_in : Data → Cause
 cause_in value =
-    under (Lost (record { 0 = number_in (value_at 1 value) })) (value_at 0 value) (
-    ("locked", Locked (key_in (value_at 1 value)) (mode_in (value_at 2 value)) (record { 0 = number_in (value_at 3 value) }))
-    ∷ ("flagged", Flagged (record { 0 = number_in (value_at 1 value) }))
-    ∷ ("changed", Changed (number_in (value_at 1 value)))
+    under (Lost (record { 0 = number_in (value_placed 1 value) })) (value_placed 0 value) (
+    ("locked", Locked (key_in (value_placed 1 value)) (mode_in (value_placed 2 value)) (record { 0 = number_in (value_placed 3 value) }))
+    ∷ ("flagged", Flagged (record { 0 = number_in (value_placed 1 value) }))
+    ∷ ("changed", Changed (number_in (value_placed 1 value)))
     ∷ []
     )
 
@@ -115,14 +115,14 @@ ended_back Evicted = refl
 -- the note that a value says
 abbrev note_in : Data → Note
 note_in value =
-    under (Gone (record { 0 = number_in (value_at 2 value) }) (ended_in (value_at 3 value))) (value_at 1 value) (
-    ("open", Open (record { 0 = number_in (value_at 2 value) }) (record { 0 = number_in (value_at 3 value) }) (number_in (value_at 4 value)) (record { 0 = number_in (value_at 5 value) }))
-    ∷ ("took", Took (record { 0 = number_in (value_at 2 value) }) (key_in (value_at 3 value)) (mode_in (value_at 4 value)))
-    ∷ ("gave", Gave (record { 0 = number_in (value_at 2 value) }))
-    ∷ ("wrote", Wrote (record { 0 = number_in (value_at 2 value) }) (work_in (value_at 3 value)))
-    ∷ ("did", Did (record { 0 = number_in (value_at 2 value) }) (record { 0 = number_in (value_at 3 value) }) (number_in (value_at 4 value)) (call_in (value_at 5 value)) (number_in (value_at 6 value)) (reply_in (value_at 7 value)))
-    ∷ ("cut", Cut (record { 0 = number_in (value_at 2 value) }) (path_in (value_at 3 value)) (record { items = map path_in (values_in (value_at 4 value)); room = 0 }))
-    ∷ ("met", Met (record { 0 = number_in (value_at 2 value) }) (cause_in (value_at 3 value)))
+    under (Gone (record { 0 = number_in (value_placed 2 value) }) (ended_in (value_placed 3 value))) (value_placed 1 value) (
+    ("open", Open (record { 0 = number_in (value_placed 2 value) }) (record { 0 = number_in (value_placed 3 value) }) (number_in (value_placed 4 value)) (record { 0 = number_in (value_placed 5 value) }))
+    ∷ ("took", Took (record { 0 = number_in (value_placed 2 value) }) (key_in (value_placed 3 value)) (mode_in (value_placed 4 value)))
+    ∷ ("gave", Gave (record { 0 = number_in (value_placed 2 value) }))
+    ∷ ("wrote", Wrote (record { 0 = number_in (value_placed 2 value) }) (work_in (value_placed 3 value)))
+    ∷ ("did", Did (record { 0 = number_in (value_placed 2 value) }) (record { 0 = number_in (value_placed 3 value) }) (number_in (value_placed 4 value)) (call_in (value_placed 5 value)) (number_in (value_placed 6 value)) (reply_said (value_placed 7 value)))
+    ∷ ("cut", Cut (record { 0 = number_in (value_placed 2 value) }) (path_said (value_placed 3 value)) (record { items = map path_said (values_in (value_placed 4 value)); room = 0 }))
+    ∷ ("met", Met (record { 0 = number_in (value_placed 2 value) }) (cause_in (value_placed 3 value)))
     ∷ []
     )
 
@@ -160,9 +160,9 @@ notes_back n (note ∷ notes) named =
 -- the end of a call that a value says
 abbrev end_in : Data → CallEnd
 end_in value =
-    under (NoNamenode (number_in (value_at 4 value))) (value_at 3 value) (
-    ("done", Done (number_in (value_at 4 value)) (reply_in (value_at 5 value)))
-    ∷ ("again", Again (number_in (value_at 4 value)))
+    under (NoNamenode (number_in (value_placed 4 value))) (value_placed 3 value) (
+    ("done", Done (number_in (value_placed 4 value)) (reply_said (value_placed 5 value)))
+    ∷ ("again", Again (number_in (value_placed 4 value)))
     ∷ []
     )
 
@@ -173,7 +173,7 @@ end_back client call (NoNamenode note) named = refl
 
 -- the answer that a value says
 abbrev answer_in : Data → AnswerLine
-answer_in value = record { client = record { 0 = number_in (value_at 1 value) }; call = number_in (value_at 2 value); end = end_in value }
+answer_in value = record { client = record { 0 = number_in (value_placed 1 value) }; call = number_in (value_placed 2 value); end = end_in value }
 
 answer_back : (answer : AnswerLine) → answer_of_names answer ≡ true → answer_in (answer_data answer) ≡ answer_as_read answer
 answer_back answer named = ap (λ (end : CallEnd). record answer { end = end }) (end_back (whole answer.client.0) (whole answer.call) answer.end named)

@@ -20,7 +20,7 @@ use Rattle.script_text.specs.Json.{values_in, as_whole, text_in, number_in, trut
 use Rattle.report_text.specs.Entries.{entry_data}
 use Rattle.report_text.specs.OneReport.{are_of_names, paths_in_reply}
 use Rattle.report_text.specs.Replies.{listed_data, why_data, reply_data}
-use Rattle.report_text.proofs.Decoding.{field_at, has_field, path_in, under, optional_back, row_back, path_back}
+use Rattle.report_text.proofs.Decoding.{field_at, has_field, path_said, under, optional_back, row_back, path_back}
 
 -- the status that a value says
 abbrev status_in : Data → FileStatus
@@ -57,21 +57,21 @@ exception_in value =
     ∷ ("PathIsNotEmptyDirectory", exception.PathIsNotEmptyDirectory)
     ∷ ("AlreadyBeingCreated", exception.AlreadyBeingCreated (record { 0 = number_in (field_at "writer" value) }))
     ∷ ("LeaseExpired", exception.LeaseExpired)
-    ∷ ("NSQuotaExceeded", exception.NSQuotaExceeded (path_in (field_at "at" value)) (number_in (field_at "used" value)) (number_in (field_at "limit" value)))
-    ∷ ("DSQuotaExceeded", exception.DSQuotaExceeded (path_in (field_at "at" value)) (number_in (field_at "used" value)) (number_in (field_at "limit" value)))
+    ∷ ("NSQuotaExceeded", exception.NSQuotaExceeded (path_said (field_at "at" value)) (number_in (field_at "used" value)) (number_in (field_at "limit" value)))
+    ∷ ("DSQuotaExceeded", exception.DSQuotaExceeded (path_said (field_at "at" value)) (number_in (field_at "used" value)) (number_in (field_at "limit" value)))
     ∷ []
     )
 
 -- the reply that a value says
-abbrev pub reply_in : Data → Reply
-reply_in value =
+abbrev pub reply_said : Data → Reply
+reply_said value =
     if is_some (as_bool value) then reply.Truth (truth_in value)
     else if has_field "refused" value then reply.Refused (exception_in value)
     else if has_field "entries" value then listing (map listed_in (values_in (field_at "entries" value)))
     else if has_field "kind" value then reply.Status (status_in value)
     else reply.Used (number_in (field_at "names" value)) (number_in (field_at "bytes" value)) (as_whole (field_at "max_names" value)) (as_whole (field_at "max_bytes" value))
 
-pub reply_back : (r : Reply) → are_of_names (paths_in_reply r) ≡ true → reply_in (reply_data r) ≡ as_read r
+pub reply_back : (r : Reply) → are_of_names (paths_in_reply r) ≡ true → reply_said (reply_data r) ≡ as_read r
 reply_back (reply.Truth truth) named = refl
 reply_back (reply.Status (status.Dir mode owner)) named = refl
 reply_back (reply.Status (status.File len mode owner)) named = refl

@@ -11,9 +11,9 @@ use Rattle.script_text.specs.Json.{number_in}
 use Rattle.report_text.specs.Answers.{answer_data}
 use Rattle.report_text.specs.Entries.{place_data}
 use Rattle.report_text.specs.IsReport.{Report}
-use Rattle.report_text.specs.OneReport.{values_of, bytes_of, report_as_read, are_of_names, ConsistsOfNames, has_words}
+use Rattle.report_text.specs.OneReport.{report_values, report_bytes, report_as_read, are_of_names, ConsistsOfNames, has_words}
 use Rattle.report_text.specs.Report.{head_data, notes_data, counts_data}
-use Rattle.report_text.proofs.Decoding.{value_at, field_at, path_in, path_back}
+use Rattle.report_text.proofs.Decoding.{value_placed, field_at, path_said, path_back}
 use Rattle.report_text.proofs.NoteBack.{notes_in, notes_back, answers_in, answers_back}
 use Rattle.report_text.proofs.OneText.{one_of_lines}
 use Rattle.report_text.proofs.ReplyBack.{entry_in, entry_back}
@@ -21,7 +21,7 @@ use Rattle.report_text.proofs.ScriptBack.{script_in, script_back}
 
 -- the path and the entry that a value says
 abbrev place_in : Data → List (List ℕ) × Entry
-place_in value = (path_in (value_at 1 value), entry_in (value_at 2 value))
+place_in value = (path_said (value_placed 1 value), entry_in (value_placed 2 value))
 
 places_back : (tree : List (List (List ℕ) × Entry)) → are_of_names (map (λ (place : List (List ℕ) × Entry). place.0) tree) ≡ true → map place_in (map place_data tree) ≡ tree
 places_back [] named = refl
@@ -82,12 +82,12 @@ record AreParted (p q : Report) : Type 0 where
   answers : answered p ≡ answered q
   tree : placed p ≡ placed q
 
-parted : (p q : Report) → values_of p ≡ values_of q → AreParted p q
+parted : (p q : Report) → report_values p ≡ report_values q → AreParted p q
 parted p q same =
     let last : counted p ≡ counted q = sym (ends p) ∙ ap (λ values. last_of (head_data p.script) values) behind ∙ ends_of_q in
-    let notes = split (noted p) _ (noted q) _ (length-notes 0 p.notes ∙ ap (λ v. number_in (value_at 1 v)) last ∙ sym (length-notes 0 q.notes)) behind in
-    let answers = split (answered p) _ (answered q) _ (length-map p.answers answer_data ∙ ap (λ v. number_in (value_at 2 v)) last ∙ sym (length-map q.answers answer_data)) notes.1 in
-    let tree = split (placed p) _ (placed q) _ (length-map p.tree place_data ∙ ap (λ v. number_in (value_at 3 v)) last ∙ sym (length-map q.tree place_data)) answers.1 in
+    let notes = split (noted p) _ (noted q) _ (length-notes 0 p.notes ∙ ap (λ v. number_in (value_placed 1 v)) last ∙ sym (length-notes 0 q.notes)) behind in
+    let answers = split (answered p) _ (answered q) _ (length-map p.answers answer_data ∙ ap (λ v. number_in (value_placed 2 v)) last ∙ sym (length-map q.answers answer_data)) notes.1 in
+    let tree = split (placed p) _ (placed q) _ (length-map p.tree place_data ∙ ap (λ v. number_in (value_placed 3 v)) last ∙ sym (length-map q.tree place_data)) answers.1 in
     record { script = head; notes = notes.0; answers = answers.0; tree = tree.0 }
   where
     head : head_data p.script ≡ head_data q.script
@@ -102,7 +102,7 @@ parted p q same =
 -- ---- reports
 
 -- reports of which the lines have the same values are one, as they read
-pub one_of_values : (p q : Report) → ConsistsOfNames p → ConsistsOfNames q → values_of p ≡ values_of q → report_as_read p ≡ report_as_read q
+pub one_of_values : (p q : Report) → ConsistsOfNames p → ConsistsOfNames q → report_values p ≡ report_values q → report_as_read p ≡ report_as_read q
 one_of_values p q a b same =
     let parts = parted p q same in
     let script = sym (script_back p.script a.script) ∙ ap (λ value. script_in (field_at "script" value)) parts.script ∙ script_back q.script b.script in
@@ -113,5 +113,5 @@ one_of_values p q a b same =
 
 -- reports of which the bytes are the same are one, as they read
 pub one_of_bytes : (p q : Report) → ConsistsOfNames p → ConsistsOfNames q
-    → list_all has_words (values_of p) ≡ true → list_all has_words (values_of q) ≡ true → bytes_of p ≡ bytes_of q → report_as_read p ≡ report_as_read q
-one_of_bytes p q a b few fewer same = one_of_values p q a b (one_of_lines (values_of p) (values_of q) few fewer same)
+    → list_all has_words (report_values p) ≡ true → list_all has_words (report_values q) ≡ true → report_bytes p ≡ report_bytes q → report_as_read p ≡ report_as_read q
+one_of_bytes p q a b few fewer same = one_of_values p q a b (one_of_lines (report_values p) (report_values q) few fewer same)

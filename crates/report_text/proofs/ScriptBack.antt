@@ -14,23 +14,23 @@ use Rattle.serde_json.specs.Data.{Data}
 use Rattle.script_text.specs.Json.{values_in, as_whole, text_in, number_in, truth_in}
 use Rattle.script_text.specs.Form.{call_data, client_data, stop_data, script_data}
 use Rattle.report_text.specs.OneReport.{are_of_names}
-use Rattle.report_text.proofs.Decoding.{value_at, field_at, path_in, under, optional_back, row_back, row_back_of, path_back}
+use Rattle.report_text.proofs.Decoding.{value_placed, field_at, path_said, under, optional_back, row_back, row_back_of, path_back}
 
 -- the call that a value says
 abbrev pub call_in : Data → Call
 call_in value =
-    under (call.Usage (path_in (value_at 1 value))) (value_at 0 value) (
-    ("mkdirs", call.Mkdirs (path_in (value_at 1 value)))
-    ∷ ("create", call.Create (path_in (value_at 1 value)) (truth_in (value_at 2 value)))
-    ∷ ("append", call.Append (path_in (value_at 1 value)))
-    ∷ ("grow", call.Grow (path_in (value_at 1 value)) (number_in (value_at 2 value)))
-    ∷ ("close", call.Close (path_in (value_at 1 value)))
-    ∷ ("stat", call.Stat (path_in (value_at 1 value)))
-    ∷ ("list", call.List (path_in (value_at 1 value)))
-    ∷ ("delete", call.Delete (path_in (value_at 1 value)) (truth_in (value_at 2 value)))
-    ∷ ("rename", call.Rename (path_in (value_at 1 value)) (path_in (value_at 2 value)))
-    ∷ ("chmod", call.Chmod (path_in (value_at 1 value)) (number_in (value_at 2 value)))
-    ∷ ("set_quota", call.SetQuota (path_in (value_at 1 value)) (as_whole (value_at 2 value)) (as_whole (value_at 3 value)))
+    under (call.Usage (path_said (value_placed 1 value))) (value_placed 0 value) (
+    ("mkdirs", call.Mkdirs (path_said (value_placed 1 value)))
+    ∷ ("create", call.Create (path_said (value_placed 1 value)) (truth_in (value_placed 2 value)))
+    ∷ ("append", call.Append (path_said (value_placed 1 value)))
+    ∷ ("grow", call.Grow (path_said (value_placed 1 value)) (number_in (value_placed 2 value)))
+    ∷ ("close", call.Close (path_said (value_placed 1 value)))
+    ∷ ("stat", call.Stat (path_said (value_placed 1 value)))
+    ∷ ("list", call.List (path_said (value_placed 1 value)))
+    ∷ ("delete", call.Delete (path_said (value_placed 1 value)) (truth_in (value_placed 2 value)))
+    ∷ ("rename", call.Rename (path_said (value_placed 1 value)) (path_said (value_placed 2 value)))
+    ∷ ("chmod", call.Chmod (path_said (value_placed 1 value)) (number_in (value_placed 2 value)))
+    ∷ ("set_quota", call.SetQuota (path_said (value_placed 1 value)) (as_whole (value_placed 2 value)) (as_whole (value_placed 3 value)))
     ∷ []
     )
 
@@ -70,7 +70,7 @@ client_back client good =
 
 -- the stop that a value says
 abbrev stop_in : Data → NodeNo × ℕ
-stop_in value = (record { 0 = number_in (value_at 0 value) }, number_in (value_at 1 value))
+stop_in value = (record { 0 = number_in (value_placed 0 value) }, number_in (value_placed 1 value))
 
 -- the script that a value says
 abbrev pub script_in : Data → Script

@@ -29,33 +29,33 @@ abbrev pub made_status : Reply
 made_status = Status (status.Dir 493 (codes "ann"))
 
 -- the note that opens a call of the only client, in the session of its number and at the only namenode
-abbrev pub opened : ℕ → Note
-opened call = Open (record { 0 = call }) (record { 0 = 0 }) call (record { 0 = 0 })
+abbrev pub open_note : ℕ → Note
+open_note call = Open (record { 0 = call }) (record { 0 = 0 }) call (record { 0 = 0 })
 
 -- the note of the answering commit of the first call
-abbrev pub made : Note
-made = Did (record { 0 = 1 }) (record { 0 = 0 }) 1 (Mkdirs made_path) 1 (Truth true)
+abbrev pub mkdirs_note : Note
+mkdirs_note = Did (record { 0 = 1 }) (record { 0 = 0 }) 1 (Mkdirs made_path) 1 (Truth true)
 
 -- the note of the answering commit of the second call
-abbrev pub told : Note
-told = Did (record { 0 = 2 }) (record { 0 = 0 }) 2 (Stat made_path) 2 made_status
+abbrev pub stat_note : Note
+stat_note = Did (record { 0 = 2 }) (record { 0 = 0 }) 2 (Stat made_path) 2 made_status
 
 -- the notes of the first script, without locks
 abbrev pub plain_notes : List Note
-plain_notes = opened 1 ∷ made ∷ opened 2 ∷ told ∷ []
+plain_notes = open_note 1 ∷ mkdirs_note ∷ open_note 2 ∷ stat_note ∷ []
 
 -- the notes of the first script, with the locks that its sessions took
 abbrev pub locked_notes : List Note
 locked_notes =
-    opened 1
+    open_note 1
     ∷ Took (record { 0 = 1 }) (key.Inode (record { 0 = 0 }) (codes "root")) Exclusive
     ∷ Took (record { 0 = 1 }) (key.Inode (record { 0 = 1 }) (codes "a")) Exclusive
     ∷ Took (record { 0 = 1 }) (key.Reply (record { 0 = 0 })) Exclusive
-    ∷ made
-    ∷ opened 2
+    ∷ mkdirs_note
+    ∷ open_note 2
     ∷ Took (record { 0 = 2 }) (key.Inode (record { 0 = 2 }) (codes "b")) Shared
     ∷ Took (record { 0 = 2 }) (key.Reply (record { 0 = 0 })) Exclusive
-    ∷ told
+    ∷ stat_note
     ∷ []
 
 -- the answer to this call of the only client, which rests on this note

@@ -22,10 +22,7 @@ use Rattle.commit_log.specs.declared.note.Note.TheVariants.{Open, Took, Gave, Wr
 use Rattle.commit_log.specs.declared.note.Work.TheVariants.{Flag, Batch, Reclaim}
 use Rattle.commit_log.specs.declared.note.Cause.TheVariants.{Locked, Flagged, Changed, Lost}
 use Rattle.commit_log.specs.declared.note.Ended.TheVariants.{Stopped, Evicted}
-
--- the path /d
-abbrev pub d : List (List ℕ)
-d = codes "d" ∷ []
+use Rattle.commit_log.specs.Samples.{d}
 
 -- a key of each table, with its text
 abbrev pub keys : List (Key × String)

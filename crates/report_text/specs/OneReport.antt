@@ -22,12 +22,12 @@ use Rattle.report_text.specs.IsReport.{Report}
 use Rattle.report_text.specs.Report.{report_data, report_text}
 
 -- the values of the lines of a report
-abbrev pub values_of : Report → List Data
-values_of report = report_data report.script report.notes report.answers report.tree
+abbrev pub report_values : Report → List Data
+report_values report = report_data report.script report.notes report.answers report.tree
 
 -- the bytes of a report
-abbrev pub bytes_of : Report → List ℕ
-bytes_of report = report_text report.script report.notes report.answers report.tree
+abbrev pub report_bytes : Report → List ℕ
+report_bytes report = report_text report.script report.notes report.answers report.tree
 
 -- ---- a report as it reads
 

@@ -11,7 +11,7 @@ ghost use Rattle.report_text.specs.Entries.{place_data};
 ghost use Rattle.report_text.specs.FormExamples as forms;
 ghost use Rattle.report_text.specs.Replies.{reply_data};
 ghost use Rattle.report_text.specs.Report.{report_text};
-ghost use Rattle.report_text.specs.OneReport.{values_of, ConsistsOfNames, has_words};
+ghost use Rattle.report_text.specs.OneReport.{report_values, ConsistsOfNames, has_words};
 ghost use Rattle.report_text.specs.Examples.{locked_report, locked_notes, plain_notes, made_answers, made_tree, text_of_lines, locked_lines, plain_lines};
 
 /// The report of the first script, in which each session took its locks.
@@ -29,7 +29,7 @@ pub fn first_report_without_locks_is_written()
 /// The first report is one of those that their text tells.
 pub fn first_report_consists_of_names()
     ensures names { ConsistsOfNames locked_report }
-    ensures numbers { list_all has_words (values_of locked_report) ≡ true }
+    ensures numbers { list_all has_words (report_values locked_report) ≡ true }
 {}
 
 /// A line of a note of each kind, with each key, each step and each cause.

@@ -14,7 +14,7 @@ use Rattle.script_text.specs.Form.{argument_data, call_data}
 use Rattle.script_text.specs.CallForms.{has_kind, arguments_at, call_named, kinds_named, named_by, kinds_by, behind_name, has_form, refused_path, has_range}
 use Rattle.script_text.specs.Faults.{fault, bad_path, fault_unless, call_fault}
 use Rattle.script_text.specs.Grammar.{SaysCall}
-use Rattle.script_text.specs.Reading.{IsMade}
+use Rattle.script_text.specs.Reading.{IsCallMade}
 use Rattle.script_text.proofs.ValueFacts.{unless-none, option_or-none, option_map-none, if_there, if_made, if_given, if_found, values_of-items_of, named_value}
 use Rattle.script_text.proofs.Arguments.{refused, arguments_back, values_fit, none_refused, same_arguments, values_back}
 use Rattle.script_text.proofs.Forms.{built, formed, kinds_of_word, built_so}
@@ -101,7 +101,7 @@ call_said at n value h =
 -- ---- a call that was made of a name and the values behind it
 
 module _ (value : Data) (name : List ℕ) (rest : List Data) (named : Some name ≡ named_by value) (behind : rest ≡ behind_name value)
-    (fits : option_map_or (λ (kinds : List Argument). pointwise has_kind kinds rest) (kinds_named name) false ≡ true) (none : refused rest ≡ None) (asked : Call) (made : IsMade name rest (Some asked)) where
+    (fits : option_map_or (λ (kinds : List Argument). pointwise has_kind kinds rest) (kinds_named name) false ≡ true) (none : refused rest ≡ None) (asked : Call) (made : IsCallMade name rest (Some asked)) where
   -- the kinds that the name asks for are those of a call of the same form
   kinds_told : kinds_named name ≡ Some (form_of (formed asked).blank).arguments
   kinds_told = ap kinds_named made.0 ∙ kinds_of_word asked

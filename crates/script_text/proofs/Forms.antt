@@ -11,29 +11,29 @@ use Rattle.script_text.proofs.Arguments.{kind_of}
 
 -- ---- what an argument has
 
-abbrev path_of : Argument → List (List ℕ)
-path_of (a_path path) = path
-path_of (a_truth truth) = []
-path_of (a_number least most number) = []
-path_of (a_quota limit) = []
+abbrev path_argument : Argument → List (List ℕ)
+path_argument (a_path path) = path
+path_argument (a_truth truth) = []
+path_argument (a_number least most number) = []
+path_argument (a_quota limit) = []
 
-abbrev truth_of : Argument → Bool
-truth_of (a_path path) = false
-truth_of (a_truth truth) = truth
-truth_of (a_number least most number) = false
-truth_of (a_quota limit) = false
+abbrev truth_argument : Argument → Bool
+truth_argument (a_path path) = false
+truth_argument (a_truth truth) = truth
+truth_argument (a_number least most number) = false
+truth_argument (a_quota limit) = false
 
-abbrev number_of : Argument → ℕ
-number_of (a_path path) = 0
-number_of (a_truth truth) = 0
-number_of (a_number least most number) = number
-number_of (a_quota limit) = 0
+abbrev number_argument : Argument → ℕ
+number_argument (a_path path) = 0
+number_argument (a_truth truth) = 0
+number_argument (a_number least most number) = number
+number_argument (a_quota limit) = 0
 
-abbrev quota_of : Argument → Option ℕ
-quota_of (a_path path) = None
-quota_of (a_truth truth) = None
-quota_of (a_number least most number) = None
-quota_of (a_quota limit) = limit
+abbrev quota_argument : Argument → Option ℕ
+quota_argument (a_path path) = None
+quota_argument (a_truth truth) = None
+quota_argument (a_number least most number) = None
+quota_argument (a_quota limit) = limit
 
 -- the argument at a place
 abbrev at : ℕ → List Argument → Argument
@@ -43,18 +43,18 @@ at i all = unwrap_or (slice_get all i) (a_quota None)
 
 -- the call of the form of another that is made with these arguments
 abbrev pub built : Call → List Argument → Call
-built (call.Mkdirs path) all = call.Mkdirs (path_of (at 0 all))
-built (call.Create path overwrite) all = call.Create (path_of (at 0 all)) (truth_of (at 1 all))
-built (call.Append path) all = call.Append (path_of (at 0 all))
-built (call.Grow path bytes) all = call.Grow (path_of (at 0 all)) (number_of (at 1 all))
-built (call.Close path) all = call.Close (path_of (at 0 all))
-built (call.Stat path) all = call.Stat (path_of (at 0 all))
-built (call.List path) all = call.List (path_of (at 0 all))
-built (call.Delete path recursive) all = call.Delete (path_of (at 0 all)) (truth_of (at 1 all))
-built (call.Rename source target) all = call.Rename (path_of (at 0 all)) (path_of (at 1 all))
-built (call.Chmod path mode) all = call.Chmod (path_of (at 0 all)) (number_of (at 1 all))
-built (call.SetQuota path names bytes) all = call.SetQuota (path_of (at 0 all)) (quota_of (at 1 all)) (quota_of (at 2 all))
-built (call.Usage path) all = call.Usage (path_of (at 0 all))
+built (call.Mkdirs path) all = call.Mkdirs (path_argument (at 0 all))
+built (call.Create path overwrite) all = call.Create (path_argument (at 0 all)) (truth_argument (at 1 all))
+built (call.Append path) all = call.Append (path_argument (at 0 all))
+built (call.Grow path bytes) all = call.Grow (path_argument (at 0 all)) (number_argument (at 1 all))
+built (call.Close path) all = call.Close (path_argument (at 0 all))
+built (call.Stat path) all = call.Stat (path_argument (at 0 all))
+built (call.List path) all = call.List (path_argument (at 0 all))
+built (call.Delete path recursive) all = call.Delete (path_argument (at 0 all)) (truth_argument (at 1 all))
+built (call.Rename source target) all = call.Rename (path_argument (at 0 all)) (path_argument (at 1 all))
+built (call.Chmod path mode) all = call.Chmod (path_argument (at 0 all)) (number_argument (at 1 all))
+built (call.SetQuota path names bytes) all = call.SetQuota (path_argument (at 0 all)) (quota_argument (at 1 all)) (quota_argument (at 2 all))
+built (call.Usage path) all = call.Usage (path_argument (at 0 all))
 
 -- the numbers of the argument fit 64 bits
 abbrev pub is_small : Argument → Bool

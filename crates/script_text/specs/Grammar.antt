@@ -46,7 +46,7 @@ pub record IsScriptText (bytes : List ℕ) (script : Script) : Type 0 where
   pub says : (ms : Members) × (value_of bytes ≡ Some (object ms)) × Says ms script
 
 -- what a reader answers: the script of which the bytes are a text, or why they are none's; want of memory is free
-abbrev pub IsRead : List ℕ → Result Script ScriptError → Type 0
-IsRead bytes (Ok script) = IsScriptText bytes script
-IsRead bytes (Err (Bad told)) = script_fault bytes ≡ Some told
-IsRead bytes (Err NoMemory) = ⊤
+abbrev pub IsScriptRead : List ℕ → Result Script ScriptError → Type 0
+IsScriptRead bytes (Ok script) = IsScriptText bytes script
+IsScriptRead bytes (Err (Bad told)) = script_fault bytes ≡ Some told
+IsScriptRead bytes (Err NoMemory) = ⊤

@@ -23,9 +23,9 @@ IsReadOf fault Is (Err (Bad told)) = fault ≡ Some told
 IsReadOf fault Is (Err NoMemory) = ⊤
 
 -- the call of this name with these values behind it; where there is none, no call is named so or something is out of its range
-abbrev pub IsMade : List ℕ → List Data → Option Call → Type 0
-IsMade name values (Some call) = (name ≡ codes (form_of call).word) × ((form_of call).arguments ≡ arguments_at 0 (form_of call).arguments values)
-IsMade name values None = option_map_or (λ kinds. list_all is_in_range (arguments_at 0 kinds values)) (kinds_named name) false ≡ false
+abbrev pub IsCallMade : List ℕ → List Data → Option Call → Type 0
+IsCallMade name values (Some call) = (name ≡ codes (form_of call).word) × ((form_of call).arguments ≡ arguments_at 0 (form_of call).arguments values)
+IsCallMade name values None = option_map_or (λ kinds. list_all is_in_range (arguments_at 0 kinds values)) (kinds_named name) false ≡ false
 
 -- the value says the script
 abbrev pub SaysScript : Data → Script → Type 0

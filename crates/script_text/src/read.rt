@@ -10,7 +10,7 @@ ghost use Rattle.serde_json.specs.View.{view, members_view};
 ghost use Rattle.script_text.specs.Json.{row, at_key, as_whole, is_from_to};
 ghost use Rattle.script_text.specs.Form.{stop_data};
 ghost use Rattle.script_text.specs.Faults.{fault, value_of, data_fault, members_fault, settings_fault, clients_fault, calls_fault, has_known_keys, may_count, may_persist, stops_fault, client_fault, client_members_fault, call_fault, has_both_keys, has_in, may_have_in, is_count_data};
-ghost use Rattle.script_text.specs.Grammar.{SaysCall, HasCalls, HasClient, SaysClient, HasClients, Says, IsRead};
+ghost use Rattle.script_text.specs.Grammar.{SaysCall, HasCalls, HasClient, SaysClient, HasClients, Says, IsScriptRead};
 ghost use Rattle.script_text.specs.Reading.{IsReadOf, SaysScript, user_in};
 
 use crate::fault::{ScriptError, ScriptFault};
@@ -27,7 +27,7 @@ use std::alloc::Global;
 
 /// The script of which these bytes are a text. Else it says which rule they break first, and where.
 pub fn read_script(alloc: Global, bytes: &[u8]) -> Result<Script, ScriptError>
-    ensures { IsRead bytes.now result }
+    ensures { IsScriptRead bytes.now result }
 {
     match read_value(alloc, bytes)? {
         Some(value) => script_in(alloc, &value),

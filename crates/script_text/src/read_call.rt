@@ -7,7 +7,7 @@ ghost use Rattle.script_text.specs.Json.{as_whole, text_in, truth_in, number_in}
 ghost use Rattle.script_text.specs.CallForms.{value_at};
 ghost use Rattle.script_text.specs.Faults.{call_fault};
 ghost use Rattle.script_text.specs.Grammar.{SaysCall};
-ghost use Rattle.script_text.specs.Reading.{IsReadOf, IsMade};
+ghost use Rattle.script_text.specs.Reading.{IsReadOf, IsCallMade};
 
 use crate::call_forms::{behind_name, has_form, name_of, refused_path};
 use crate::fault::{ScriptError, ScriptFault};
@@ -47,7 +47,7 @@ pub fn read_call(alloc: Global, at: u64, number: u32, value: &Value) -> Result<C
 // The call of this name with these values behind it. None where no call is named so, and where the number
 // is no mode.
 fn made(alloc: Global, name: &str, rest: &[Value]) -> Result<Option<Call>, NoMemory>
-    ensures { IfOk result (λ made. IsMade name.now (map view rest.now) made) }
+    ensures { IfOk result (λ made. IsCallMade name.now (map view rest.now) made) }
 {
     Ok(Some(match name {
         "mkdirs" => Call::Mkdirs(path_at(alloc, rest, 0)?),

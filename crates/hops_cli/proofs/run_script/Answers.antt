@@ -1,7 +1,7 @@
 use Rattle.std.proofs.Common.{◌≡◌, List, ℕ, [], Some, Result, Ok, Err, length, refl, ap, sym, subst, ◌∙◌}
 use Rattle.std.proofs.Math.Seq.{take-length}
 use Rattle.name_space.specs.Script.{Script}
-use Rattle.script_text.specs.Grammar.{IsScriptText, IsRead}
+use Rattle.script_text.specs.Grammar.{IsScriptText, IsScriptRead}
 use Rattle.script_text.specs.Faults.{script_fault}
 use Rattle.script_text.specs.declared.fault.ScriptFault.{ScriptFault}
 use Rattle.script_text.specs.declared.fault.ScriptError.{ScriptError}
@@ -12,7 +12,7 @@ use Rattle.hops_cli.proofs.Transfers.{HasGiven-none}
 use Rattle.hops_cli.proofs.run_script.Goals as goal
 
 -- the fault that is told is the first
-bad_told : (bytes : List ℕ) (read : Result Script ScriptError) (fault : ScriptFault) → IsRead bytes read → read ≡ Err (Bad fault) → script_fault bytes ≡ Some fault
+bad_told : (bytes : List ℕ) (read : Result Script ScriptError) (fault : ScriptFault) → IsScriptRead bytes read → read ≡ Err (Bad fault) → script_fault bytes ≡ Some fault
 bad_told bytes (Ok script) fault as_read is = absurd (let bad = is in cc)
 bad_told bytes (Err (Bad told)) fault as_read is = let same : told ≡ fault = cc in as_read ∙ ap (λ (f : ScriptFault). Some f) same
 bad_told bytes (Err NoMemory) fault as_read is = absurd (let bad = is in cc)
@@ -28,7 +28,7 @@ returns-in-Err-Bad g c = record {
   cause = (
     c.in-All.ensures.2,
     bad_told c.in-All.bytes.items c.read_script.result c.in-Err-Bad.fault
-        (subst (λ (bytes : List ℕ). IsRead bytes c.read_script.result) c.deref.ensures.value c.read_script.ensures) (c.in-Err-Bad.is ∙ ap Err c.in-Err-Bad.field-0-is)
+        (subst (λ (bytes : List ℕ). IsScriptRead bytes c.read_script.result) c.deref.ensures.value c.read_script.ensures) (c.in-Err-Bad.is ∙ ap Err c.in-Err-Bad.field-0-is)
         ∙ ap (λ (fault : ScriptFault). Some fault) (sym c.in-Err-Bad.fault-is),
     refl,
   );
