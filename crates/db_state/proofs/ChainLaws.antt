@@ -11,7 +11,7 @@ use Rattle.name_space.specs.Namespace.{Namespace, Path, entry_at, with_entry}
 use Rattle.name_space.specs.Plain.{with_dirs}
 use Rattle.inode_table.specs.declared.inode.Inode.{Inode}
 use Rattle.inode_table.specs.declared.inode.Kind.TheVariants.{Dir}
-use Rattle.db_state.specs.State.{Tables, dir_row}
+use Rattle.db_state.specs.Stored.{Tables, dir_row}
 use Rattle.db_state.specs.Spelled.{Inodes, spelled, IsTree}
 use Rattle.db_state.specs.Stands.{Quotas, quota_of, entry_of, Stands}
 use Rattle.db_state.specs.Written.{written, next_after}

@@ -9,10 +9,10 @@ use Rattle.hops_base.specs.declared.key.Key.TheVariants as key
 use Rattle.hops_base.specs.Key.{key_cmp_total, same_key}
 use Rattle.hops_base.specs.Path.{path_cmp, path_cmp_total, same_path}
 use Rattle.hops_base.proofs.Tells.{keys_tell, paths_tell}
-use Rattle.name_space.specs.Namespace.{Namespace, Path, entry_at, with_entry}
+use Rattle.name_space.specs.Namespace.{Namespace, Path, with_entry}
 use Rattle.inode_table.specs.declared.inode.Inode.{Inode}
 use Rattle.commit_log.specs.Ids.{Numbering}
-use Rattle.db_state.specs.State.{root_key}
+use Rattle.db_state.specs.Stored.{root_key}
 use Rattle.db_state.specs.Spelled.{Inodes, child_of, spelled, row_of, FitsKind, IsTree, AreGiven}
 use Rattle.db_state.specs.Stands.{Quotas, quota_of, entry_of, Stands}
 use Rattle.db_state.specs.Consistent.{flag_at}

@@ -20,7 +20,7 @@ use Rattle.commit_log.proofs.SpaceLaws.{space-none}
 use Rattle.commit_log.specs.Parts.{did}
 use Rattle.commit_log.specs.Told.{cut_in}
 use Rattle.db_state.specs.Settings.{Settings}
-use Rattle.db_state.specs.State.{State, opening_state, opening_rows, root_row}
+use Rattle.db_state.specs.Stored.{Stored, opening_stored, opening_rows, root_row}
 use Rattle.db_state.specs.Spelled.{AreGiven, spelled}
 use Rattle.db_state.specs.Stands.{Stands}
 use Rattle.db_state.specs.Counts.{Counts}
@@ -36,7 +36,7 @@ given_up [] path is row e =
 given_up (name ∷ up) path is row e = absurd (let none = no_other name up in cc)
 
 -- before anything happened all of it is consistent
-pub opening_consistent : (settings : Settings) → IsConsistent (opening_state settings)
+pub opening_consistent : (settings : Settings) → IsConsistent (opening_stored settings)
 opening_consistent settings = record {
   tree = opening_tree;
   numbered = record {
@@ -61,7 +61,7 @@ legal_quiet users old (Met s cause) d c = tt
 legal_quiet users old (Gone node ended) d c = tt
 
 -- what is consistent stays so with one note more that is neither a Did nor a Cut
-pub noted_consistent : (state : State) (note : Note) → IsConsistent state → did note ≡ None → cut_in note ≡ None → IsConsistent (committed state [] (note ∷ []))
+pub noted_consistent : (state : Stored) (note : Note) → IsConsistent state → did note ≡ None → cut_in note ≡ None → IsConsistent (committed state [] (note ∷ []))
 noted_consistent state note kept d c =
     let same : space state.settings.users (state.notes ++ note ∷ []) ≡ space state.settings.users state.notes = space-same state.settings.users state.notes note d c in
     let same_ids : ids state.settings.users (state.notes ++ note ∷ []) ≡ ids state.settings.users state.notes = ids-quiet state.settings.users state.notes note d c in

@@ -22,7 +22,7 @@ use Rattle.inode_table.specs.declared.inode.Inode.{Inode}
 use Rattle.inode_table.specs.declared.inode.Kind.{Kind}
 use Rattle.inode_table.specs.declared.inode.Kind.TheVariants.{Dir, File}
 use Rattle.quota_table.specs.declared.quota.QuotaRow.{QuotaRow}
-use Rattle.db_state.specs.State.{root_key}
+use Rattle.db_state.specs.Stored.{root_key}
 use Rattle.db_state.specs.Spelled.{Inodes, row_of, IsTree}
 use Rattle.db_state.specs.Stands.{Quotas, quota_of, entry_of_kind, entry_of, Stands}
 use Rattle.db_state.specs.Counts.{Counts}

@@ -5,7 +5,7 @@ use Rattle.hops_base.specs.declared.key.Key.{Key}
 use Rattle.hops_base.specs.Key.{key_cmp_total}
 use Rattle.hops_base.proofs.Tells.{keys_tell}
 use Rattle.inode_table.specs.declared.inode.Inode.{Inode}
-use Rattle.db_state.specs.State.{Inodes}
+use Rattle.db_state.specs.Stored.{Inodes}
 use Rattle.db_state.specs.Consistent.{IsUnflagged, flag_at, FlagsStay}
 
 -- a row that bears the flag of its key's row leaves all flags

@@ -13,7 +13,7 @@ use Rattle.name_space.proofs.UsedLaws.{used_names-with_missing, used_names-with_
 use Rattle.inode_table.specs.declared.inode.Inode.{Inode}
 use Rattle.inode_table.specs.declared.inode.Kind.TheVariants.{Dir}
 use Rattle.quota_table.specs.declared.quota.QuotaRow.{QuotaRow}
-use Rattle.db_state.specs.State.{Tables, dir_row}
+use Rattle.db_state.specs.Stored.{Tables, dir_row}
 use Rattle.db_state.specs.Spelled.{Inodes, child_of, spelled, row_of, IsTree}
 use Rattle.db_state.specs.Stands.{Quotas, quota_of, entry_of, Stands}
 use Rattle.db_state.specs.Counts.{Counts}

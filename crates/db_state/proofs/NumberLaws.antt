@@ -10,7 +10,7 @@ use Rattle.name_space.specs.Namespace.{Path, paths_below}
 use Rattle.inode_table.specs.declared.inode.Inode.{Inode}
 use Rattle.inode_table.specs.declared.inode.Kind.TheVariants.{Dir}
 use Rattle.commit_log.specs.Ids.{Numbering, with_new}
-use Rattle.db_state.specs.State.{Tables, dir_row}
+use Rattle.db_state.specs.Stored.{Tables, dir_row}
 use Rattle.db_state.specs.Spelled.{Inodes, spelled, IsTree, AreGiven}
 use Rattle.db_state.specs.Written.{written}
 use Rattle.db_state.specs.NewDirs.{new_dirs, FirstMissing}

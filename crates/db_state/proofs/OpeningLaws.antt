@@ -13,7 +13,7 @@ use Rattle.name_space.specs.Namespace as space
 use Rattle.name_space.specs.Namespace.{Path, entry_at}
 use Rattle.inode_table.specs.declared.inode.Inode.{Inode}
 use Rattle.quota_table.specs.declared.quota.QuotaRow.{QuotaRow}
-use Rattle.db_state.specs.State.{root_key, root_row, opening_rows}
+use Rattle.db_state.specs.Stored.{root_key, root_row, opening_rows}
 use Rattle.db_state.specs.Spelled.{spelled, child_of, FitsKind, IsTree}
 use Rattle.db_state.specs.Stands.{quota_of, entry_of, Stands}
 

@@ -9,7 +9,7 @@ use Rattle.hops_base.specs.Path.{same_path}
 use Rattle.hops_base.proofs.Tells.{keys_tell, paths_tell}
 use Rattle.inode_table.specs.declared.inode.Inode.{Inode}
 use Rattle.inode_table.specs.declared.inode.Kind.TheVariants.{Dir}
-use Rattle.db_state.specs.State.{root_key, root_row}
+use Rattle.db_state.specs.Stored.{root_key, root_row}
 use Rattle.db_state.specs.Spelled.{Inodes, child_of, spelled, FitsKind, IsTree, IsDirRow}
 
 -- what a step found

@@ -13,7 +13,7 @@ use Rattle.inode_table.specs.declared.inode.Inode.{Inode}
 use Rattle.quota_table.specs.declared.quota.QuotaRow.{QuotaRow}
 use Rattle.row_store.specs.Table.{Table, has_place, ready_with}
 use Rattle.row_store.proofs.ReadyLaws.{contains-ready_with}
-use Rattle.db_state.specs.State as seen
+use Rattle.db_state.specs.Stored as seen
 use Rattle.db_state.specs.declared.tables.Tables.{Tables}
 use Rattle.db_state.specs.declared.writes.Row.{Row}
 use Rattle.db_state.specs.declared.writes.Row.TheVariants as row

@@ -9,7 +9,7 @@ use Rattle.inode_table.specs.declared.inode.Kind.{Kind}
 use Rattle.name_space.specs.Namespace.{Path}
 use Rattle.row_store.specs.Children.{child_count}
 use Rattle.db_state.specs.declared.view.Place.{Place}
-use Rattle.db_state.specs.State.{Inodes}
+use Rattle.db_state.specs.Stored.{Inodes}
 use Rattle.db_state.specs.Plan.{last}
 use Rattle.db_state.specs.Current.{stops_at, Leads, Spells, IsMissing, IsLastsChild}
 use Rattle.db_state.specs.PlaceOf.{IsFound, IsPlaceOf}

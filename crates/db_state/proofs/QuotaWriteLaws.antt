@@ -9,7 +9,7 @@ use Rattle.hops_base.specs.Key.{key_cmp_total, same_key, number_of}
 use Rattle.hops_base.proofs.Tells.{keys_tell}
 use Rattle.name_space.specs.Namespace.{Path}
 use Rattle.quota_table.specs.declared.quota.QuotaRow.{QuotaRow}
-use Rattle.db_state.specs.State.{Tables}
+use Rattle.db_state.specs.Stored.{Tables}
 use Rattle.db_state.specs.Spelled.{Inodes}
 use Rattle.db_state.specs.Stands.{Quotas, quota_of}
 use Rattle.db_state.specs.Written.{written, next_after}

@@ -14,7 +14,7 @@ use Rattle.name_space.specs.Namespace.{Namespace, Path, entry_at}
 use Rattle.inode_table.specs.declared.inode.Inode.{Inode}
 use Rattle.quota_table.specs.declared.quota.QuotaRow.{QuotaRow}
 use Rattle.commit_log.specs.Ids.{Numbering, id_at}
-use Rattle.db_state.specs.State.{root_key}
+use Rattle.db_state.specs.Stored.{root_key}
 use Rattle.db_state.specs.Spelled.{Inodes, child_of, spelled, row_of, IsTree, AreGiven}
 use Rattle.db_state.specs.Stands.{Quotas, quota_of, entry_of_kind, entry_of, Stands}
 use Rattle.db_state.specs.Consistent.{flag_at, FlagsStay}

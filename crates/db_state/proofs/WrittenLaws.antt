@@ -1,7 +1,7 @@
 -- Laws of writes that are made one after the other.
 use Rattle.std.proofs.Common.{◌≡◌, ℕ, List, [], ◌∷◌, ◌++◌, Option, refl}
 use Rattle.hops_base.specs.declared.key.Key.{Key}
-use Rattle.db_state.specs.State.{Tables}
+use Rattle.db_state.specs.Stored.{Tables}
 use Rattle.db_state.specs.Written.{with_row, written, next_with, next_after}
 use Rattle.db_state.specs.declared.writes.Row.{Row}
 

@@ -16,7 +16,7 @@ use Rattle.name_space.specs.Plain.{Answered}
 use Rattle.name_space.specs.Calls.{plain, as_read}
 use Rattle.commit_log.specs.declared.note.Note.TheVariants.{Did}
 use Rattle.commit_log.specs.Ids.{Numbering, id_at, numbering_after}
-use Rattle.db_state.specs.State.{Inodes, Tables}
+use Rattle.db_state.specs.Stored.{Inodes, Tables}
 use Rattle.db_state.specs.Spelled.{IsTree, AreGiven}
 use Rattle.db_state.specs.Stands.{Stands}
 use Rattle.db_state.specs.Consistent.{FlagsStay}

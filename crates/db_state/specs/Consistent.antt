@@ -6,7 +6,7 @@ use Rattle.hops_base.specs.declared.ids.OpId.{OpId}
 use Rattle.name_space.specs.Namespace.{IsNamespace}
 use Rattle.inode_table.specs.declared.inode.Inode.{Inode}
 use Rattle.commit_log.specs.Legal.{Legal, space}
-use Rattle.db_state.specs.State.{Inodes, State}
+use Rattle.db_state.specs.Stored.{Inodes, Stored}
 use Rattle.db_state.specs.Spelled.{IsTree, IsNumbered}
 use Rattle.db_state.specs.Stands.{Stands}
 use Rattle.db_state.specs.Counts.{Counts}
@@ -25,7 +25,7 @@ FlagsStay old new = (at : Key) → is_some (map.get new at) ≡ true → flag_at
 
 -- the rows spell a tree, with the ids that the history gives its paths; the history is legal, and leads to a namespace;
 -- and the rows stand for that, with quota rows that count it; no operation runs yet, so no row bears a flag
-pub record IsConsistent (state : State) : Type 0 where
+pub record IsConsistent (state : Stored) : Type 0 where
   pub tree : IsTree state.inodes state.next
   pub numbered : IsNumbered state.inodes state.next state.settings.users state.notes
   pub legal : Legal state.settings.users state.notes

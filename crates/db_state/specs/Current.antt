@@ -24,7 +24,7 @@ use Rattle.name_space.specs.declared.entry.Listed.{Listed}
 use Rattle.row_store.specs.Children.{child_count, child_names}
 use Rattle.db_state.specs.declared.view.Place.{Place}
 use Rattle.db_state.specs.declared.view.View.{View}
-use Rattle.db_state.specs.State.{root_key}
+use Rattle.db_state.specs.Stored.{root_key}
 use Rattle.db_state.specs.Spelled.{Inodes}
 use Rattle.db_state.specs.Stands.{Quotas, quota_of}
 use Rattle.db_state.specs.Plan.{last, own_dir, plan}
@@ -132,8 +132,8 @@ children_told inodes (call.List path) places =
 children_told inodes asked places = []
 
 -- every inode has an id below this one
-abbrev pub IsFree : Inodes → ℕ → Type 0
-IsFree inodes next = (at : Key) (row : Inode) → map.get inodes at ≡ Some row → row.id.0 < next
+abbrev pub AreIdsBelow : Inodes → ℕ → Type 0
+AreIdsBelow inodes next = (at : Key) (row : Inode) → map.get inodes at ≡ Some row → row.id.0 < next
 
 -- the view of a client's call is current
 pub record IsCurrent (inodes : Inodes) (quota_rows : Quotas) (own : Option OpId) (client : ClientNo) (call : Call) (view : View) : Type 0 where
@@ -141,4 +141,4 @@ pub record IsCurrent (inodes : Inodes) (quota_rows : Quotas) (own : Option OpId)
   pub current : AllByRecursion (IsCurrentPlace inodes (plan client call view.places.items) own) view.places.items
   pub quotas : SeesQuotas quota_rows (plan client call view.places.items) view.quotas.items
   pub children : view.children.items ≡ children_told inodes call view.places.items
-  pub next : IsFree inodes view.next.0
+  pub next : AreIdsBelow inodes view.next.0

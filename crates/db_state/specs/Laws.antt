@@ -20,7 +20,7 @@ use Rattle.commit_log.specs.Parts.{did}
 use Rattle.commit_log.specs.Told.{cut_in}
 use Rattle.db_state.specs.declared.view.Place.{Place}
 use Rattle.db_state.specs.Settings.{Settings}
-use Rattle.db_state.specs.State.{State, Tables, root_key, opening_state, opening_rows}
+use Rattle.db_state.specs.Stored.{Stored, Tables, root_key, opening_stored, opening_rows}
 use Rattle.db_state.specs.Spelled.{Inodes, spelled, row_of, FitsKind, IsTree, AreGiven}
 use Rattle.db_state.specs.Stands.{Quotas, quota_of, entry_of, Stands}
 use Rattle.db_state.specs.Counts.{Counts}
@@ -311,10 +311,10 @@ OpeningStands = Stands opening_rows map.empty [] spaces.opening
 
 -- before anything happened rows and book are consistent
 abbrev pub OpeningIsConsistent : Type 0
-OpeningIsConsistent = (settings : Settings) → IsConsistent (opening_state settings)
+OpeningIsConsistent = (settings : Settings) → IsConsistent (opening_stored settings)
 
 -- consistent rows and book stay so with one note more that is neither a Did nor a Cut
 abbrev pub QuietNotesKeepItConsistent : Type 0
 QuietNotesKeepItConsistent =
-    (state : State) (note : Note) → IsConsistent state → did note ≡ None → cut_in note ≡ None
+    (state : Stored) (note : Note) → IsConsistent state → did note ≡ None → cut_in note ≡ None
     → IsConsistent (committed state [] (note ∷ []))

@@ -7,7 +7,7 @@ use Rattle.hops_base.specs.declared.key.Key.{Key}
 use Rattle.hops_base.specs.declared.key.Key.TheVariants as key
 use Rattle.name_space.specs.Namespace.{Namespace, Path, entry_at}
 pub use Rattle.name_space.specs.Namespace.{paths_below}
-use Rattle.db_state.specs.State.{dir_row}
+use Rattle.db_state.specs.Stored.{dir_row}
 use Rattle.db_state.specs.Spelled.{Inodes}
 use Rattle.db_state.specs.declared.writes.Row.{Row}
 use Rattle.db_state.specs.declared.writes.Row.TheVariants as row

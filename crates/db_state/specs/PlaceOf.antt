@@ -6,7 +6,7 @@ use Rattle.hops_base.specs.declared.key.Key.{Key}
 use Rattle.inode_table.specs.declared.inode.Inode.{Inode}
 use Rattle.name_space.specs.Namespace.{Path}
 use Rattle.db_state.specs.declared.view.Place.{Place}
-use Rattle.db_state.specs.State.{Inodes}
+use Rattle.db_state.specs.Stored.{Inodes}
 use Rattle.db_state.specs.Current.{SpellsPlace, IsMissing, KnowsChild}
 
 -- the row that was found is the table's

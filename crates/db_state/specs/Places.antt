@@ -4,7 +4,7 @@ use Rattle.hops_base.specs.declared.key.Key.{Key}
 use Rattle.hops_base.specs.Key.{same_key}
 use Rattle.row_store.specs.Table as store
 use Rattle.row_store.specs.Table.{has_place}
-use Rattle.db_state.specs.State as seen
+use Rattle.db_state.specs.Stored as seen
 use Rattle.db_state.specs.declared.tables.Tables.{Tables}
 use Rattle.db_state.specs.declared.writes.Row.{Row}
 use Rattle.db_state.specs.declared.writes.Row.TheVariants as row

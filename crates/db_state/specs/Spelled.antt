@@ -9,8 +9,8 @@ use Rattle.inode_table.specs.declared.inode.Inode.{Inode}
 use Rattle.inode_table.specs.declared.inode.Kind.TheVariants.{Dir}
 use Rattle.commit_log.specs.declared.note.Note.{Note}
 use Rattle.commit_log.specs.Ids.{Numbering, ids, id_at}
-pub use Rattle.db_state.specs.State.{Inodes}
-use Rattle.db_state.specs.State.{root_key, root_row}
+pub use Rattle.db_state.specs.Stored.{Inodes}
+use Rattle.db_state.specs.Stored.{root_key, root_row}
 
 -- the row of a name under a row
 abbrev pub child_of : Inodes → List ℕ → Option Inode → Option Inode

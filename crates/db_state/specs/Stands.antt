@@ -14,7 +14,7 @@ use Rattle.inode_table.specs.declared.inode.Inode.{Inode}
 use Rattle.inode_table.specs.declared.inode.Kind.{Kind}
 use Rattle.inode_table.specs.declared.inode.Kind.TheVariants.{Dir, File}
 use Rattle.quota_table.specs.declared.quota.QuotaRow.{QuotaRow}
-pub use Rattle.db_state.specs.State.{Quotas}
+pub use Rattle.db_state.specs.Stored.{Quotas}
 use Rattle.db_state.specs.Spelled.{Inodes, row_of}
 
 -- the quota row of an inode

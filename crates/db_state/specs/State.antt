@@ -1,54 +1,33 @@
--- The tables and the book as plain maps and lists.
-use Rattle.std.specs.Prelude.{ℕ, List, [], None, false, codes}
+-- All that the core keeps, in groups. This project's own.
+use Rattle.std.specs.Prelude.{ℕ, List, None, map as list_map}
 use Rattle.std.specs.FinMap as map
-use Rattle.hops_base.specs.declared.key.Key.{Key}
-use Rattle.hops_base.specs.declared.key.Key.TheVariants as key
-use Rattle.hops_base.specs.Key.{key_cmp}
-use Rattle.name_space.specs.Namespace.{dir_mode, root_owner}
-use Rattle.inode_table.specs.declared.inode.Inode.{Inode}
-use Rattle.inode_table.specs.declared.inode.Kind.TheVariants.{Dir}
-use Rattle.quota_table.specs.declared.quota.QuotaRow.{QuotaRow}
-use Rattle.commit_log.specs.declared.note.Note.{Note}
+use Rattle.std.specs.Ordering.{nat_cmp}
+use Rattle.row_locks.specs.Locks.{Locks}
+use Rattle.db_state.specs.Stored.{Stored, opening_stored}
 use Rattle.db_state.specs.Settings.{Settings}
+use Rattle.db_state.specs.declared.session.Seat.{Seat}
+use Rattle.db_state.specs.declared.session.Session.{Session}
 
--- the inode rows by their keys
-abbrev pub Inodes : Type 0
-Inodes = map.FinMap key_cmp Inode
+-- the sessions by their numbers: each client's open or last one
+abbrev pub Sessions : Type 0
+Sessions = map.FinMap nat_cmp Session
 
--- the quota rows by their keys
-abbrev pub Quotas : Type 0
-Quotas = map.FinMap key_cmp QuotaRow
-
--- the rows of all tables
-pub record Tables : Type 0 where
-  pub inodes : Inodes
-  pub quotas : Quotas
-
--- the rows of all tables, what the run is set up with, the notes of the book, and the next free inode id
+-- the tables with the book, the settings and the next free id; the locks; the clients' seats; and the sessions
 pub record State : Type 0 where
-  pub inodes : Inodes
-  pub quotas : Quotas
-  pub settings : Settings
-  pub notes : List Note
-  pub next : ℕ
+  pub stored : Stored
+  pub locks : Locks
+  pub seats : List Seat
+  pub sessions : Sessions
 
--- the key of the root's row
-abbrev pub root_key : Key
-root_key = key.Inode (record { 0 = 0 }) (codes "root")
-
--- a new directory of this id and owner
-abbrev pub dir_row : ℕ → List ℕ → Inode
-dir_row id owner =
-    record { id = record { 0 = id }; kind = Dir; len = 0; writer = None; mode = dir_mode; owner = owner; has_quota = false; flag = None }
-
--- the root's row
-abbrev pub root_row : Inode
-root_row = dir_row 1 root_owner
-
--- the rows before anything happened: the root's alone
-abbrev pub opening_rows : Inodes
-opening_rows = map.insert map.empty root_key root_row
+-- the seat of a client that hasn't called yet
+abbrev pub empty_seat : Seat
+empty_seat = record { begun = 0; answered = 0; last = None }
 
 -- all of it before anything happened, with these settings
 abbrev pub opening_state : Settings → State
-opening_state settings = record { inodes = opening_rows; quotas = map.empty; settings = settings; notes = []; next = 2 }
+opening_state settings = record {
+  stored = opening_stored settings;
+  locks = map.empty;
+  seats = list_map (λ (user : List ℕ). empty_seat) settings.users;
+  sessions = map.empty;
+}

@@ -4,7 +4,7 @@ use Rattle.std.specs.FinMap as map
 use Rattle.hops_base.specs.declared.key.Key.{Key}
 use Rattle.commit_log.specs.declared.note.Note.{Note}
 use Rattle.db_state.specs.Settings.{Settings}
-use Rattle.db_state.specs.State.{State, Tables}
+use Rattle.db_state.specs.Stored.{Stored, Tables}
 use Rattle.db_state.specs.declared.writes.Row.{Row}
 use Rattle.db_state.specs.declared.writes.Row.TheVariants as row
 
@@ -31,13 +31,13 @@ next_after next [] = next
 next_after next (write ∷ writes) = next_after (next_with next write.1) writes
 
 -- the rows of all tables alone
-abbrev pub tables_of : State → Tables
+abbrev pub tables_of : Stored → Tables
 tables_of state = record { inodes = state.inodes; quotas = state.quotas }
 
 -- all of it where these are the rows, the settings, the notes and the next free id
-abbrev pub state_of : Tables → Settings → List Note → ℕ → State
+abbrev pub state_of : Tables → Settings → List Note → ℕ → Stored
 state_of tables settings notes next = record { inodes = tables.inodes; quotas = tables.quotas; settings = settings; notes = notes; next = next }
 
 -- all of it once these rows and notes are written
-abbrev pub committed : State → List (Key × Option Row) → List Note → State
+abbrev pub committed : Stored → List (Key × Option Row) → List Note → Stored
 committed old writes notes = state_of (written (tables_of old) writes) old.settings (old.notes ++ notes) (next_after old.next writes)

@@ -1,7 +1,7 @@
 //! The row of a new directory.
 
 ghost use Rattle.std.specs.Prelude.{◌≡◌};
-ghost use Rattle.db_state.specs.State.{dir_row};
+ghost use Rattle.db_state.specs.Stored.{dir_row};
 
 use hops_base::{InodeId, User};
 use inode_table::{Inode, Kind};

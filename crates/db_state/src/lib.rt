@@ -6,27 +6,34 @@
 //! the history's ids, and quota rows that count it; that [`tree_of`] is that namespace; and that [`listing_of`] tells
 //! the rows under a row, which are the children of its path. It says what a view must be to be current, which place the
 //! rows have for a path, and what the outcome of a call promises. Laws of rows are functions with empty bodies in
-//! `laws` and `row_laws`.
+//! `laws` and `row_laws`, and those of what sessions have read and hold in `read_laws`. For sessions that run beside each
+//! other it says what is kept of them, what always holds of it, and which changes there are; that each change keeps it
+//! is in `core_laws`.
 #![tactic(auto)]
 
-mod db;
+pub mod core_laws;
 mod directory;
 pub mod laws;
 mod listing;
 mod outcome;
+pub mod read_examples;
+pub mod read_laws;
 pub mod row_laws;
 mod rows;
+mod session;
 mod settings;
+mod store;
 mod tables;
 mod tree;
 mod view;
 mod writes;
 
-pub use db::Db;
 pub use directory::new_dir;
 pub use listing::{listing_of, status_of};
 pub use outcome::Outcome;
+pub use session::{Phase, Reads, Seat, Session, Stage};
 pub use settings::Settings;
+pub use store::Store;
 pub use tree::tree_of;
 pub use view::{FoundList, Place, PlaceList, QuotaList, View};
 pub use writes::{Row, Writes};

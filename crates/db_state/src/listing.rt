@@ -5,7 +5,7 @@ ghost use Rattle.std.specs.FinMap as map;
 ghost use Rattle.hops_base.specs.declared.key.Key.TheVariants as key;
 ghost use Rattle.db_state.specs.Current.{listed_row, listed_under, status_of_kind};
 
-use crate::db::Db;
+use crate::store::Store;
 use hops_base::{InodeId, Key, Name, NoMemory};
 use inode_table::{Inode, Kind};
 use name_space::{FileStatus, Listed, Listing};
@@ -13,7 +13,7 @@ use std::alloc::Global;
 
 /// What is told of each row under this row, in the order of their names. It is empty exactly where there is
 /// none, as under a file.
-pub fn listing_of(alloc: Global, db: &Db, parent: InodeId) -> Result<Listing, NoMemory>
+pub fn listing_of(alloc: Global, db: &Store, parent: InodeId) -> Result<Listing, NoMemory>
     ensures { IfOk result (λ listing. listing.items ≡ listed_under db.now.inodes parent) }
 {
     let names = db.children(parent)?;
@@ -28,7 +28,7 @@ pub fn listing_of(alloc: Global, db: &Db, parent: InodeId) -> Result<Listing, No
 }
 
 // What is told of the row of this name under a row. None where there is no such row.
-fn listed_at(db: &Db, parent: InodeId, name: Name) -> Result<Option<Listed>, NoMemory>
+fn listed_at(db: &Store, parent: InodeId, name: Name) -> Result<Option<Listed>, NoMemory>
     ensures { IfOk result (λ listed. listed ≡ option_map (listed_row name) (map.get db.now.inodes (key.Inode parent name))) }
 {
     let key = Key::Inode(parent, name.copy()?);

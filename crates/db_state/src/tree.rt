@@ -6,7 +6,7 @@ ghost use Rattle.commit_log.specs.Legal.{space};
 ghost use Rattle.db_state.specs.Stands.{entry_of_kind};
 ghost use Rattle.db_state.specs.Walk.{step_to};
 
-use crate::db::Db;
+use crate::store::Store;
 use hops_base::{InodeId, ItemList, Key, NoMemory, Path};
 use inode_table::{Inode, Kind};
 use name_space::Entry;
@@ -14,7 +14,7 @@ use quota_table::QuotaRow;
 use std::alloc::Global;
 
 /// The namespace in path order, `/` first, walked over the rows.
-pub fn tree_of(alloc: Global, db: &Db) -> Result<ItemList<(Path, Entry)>, NoMemory>
+pub fn tree_of(alloc: Global, db: &Store) -> Result<ItemList<(Path, Entry)>, NoMemory>
     ensures { IfOk result (λ tree. tree.items ≡ space db.now.settings.users db.now.notes) }
 {
     db.consistent();
@@ -35,7 +35,7 @@ pub fn tree_of(alloc: Global, db: &Db) -> Result<ItemList<(Path, Entry)>, NoMemo
 
 // The children are pushed from the last to the first, so that they are popped in their order. A file has none.
 fn add_children(
-    db: &Db,
+    db: &Store,
     parent: InodeId,
     path: &Path,
     pending: &mut Vec<(Path, Key)>,

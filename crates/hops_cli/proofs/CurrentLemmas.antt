@@ -16,7 +16,7 @@ use Rattle.inode_table.specs.declared.inode.Kind.{Kind}
 use Rattle.inode_table.specs.declared.inode.Kind.TheVariants.{Dir}
 use Rattle.quota_table.specs.declared.quota.QuotaRow.{QuotaRow}
 use Rattle.commit_log.specs.Legal.{space}
-use Rattle.db_state.specs.State.{State, Inodes, Quotas}
+use Rattle.db_state.specs.Stored.{Stored, Inodes, Quotas}
 use Rattle.db_state.specs.Spelled.{spelled, row_of}
 use Rattle.db_state.specs.Stands.{quota_of, entry_of, entry_of_kind}
 use Rattle.db_state.specs.Consistent.{IsConsistent, IsUnflagged}
@@ -42,7 +42,7 @@ limited inodes quotas row quota dir here limit =
     either false b (inr is) = is
 
 -- where no directory of the namespace has a quota, no inode has a quota row
-pub no_quota : (state : State) → IsConsistent state → IsLimitless (space state.settings.users state.notes) → (id : InodeId) → quota_of state.quotas id ≡ None
+pub no_quota : (state : Stored) → IsConsistent state → IsLimitless (space state.settings.users state.notes) → (id : InodeId) → quota_of state.quotas id ≡ None
 no_quota state kept limitless id =
     (elim (quota_of state.quotas id) as (λ o. quota_of state.quotas id ≡ o → o ≡ None) [
       | None ↦ λ e. refl
@@ -96,7 +96,7 @@ place_current inodes locked path place bare read = record {
 }
 
 -- the view that was read of the rows is current with them
-pub view_current : (state : State) (client : ClientNo) (asked : Call) (view : View) (reads : ℕ) → IsConsistent state → IsLimitless (space state.settings.users state.notes) → IsViewAt state asked view reads
+pub view_current : (state : Stored) (client : ClientNo) (asked : Call) (view : View) (reads : ℕ) → IsConsistent state → IsLimitless (space state.settings.users state.notes) → IsViewAt state asked view reads
     → IsCurrent state.inodes state.quotas None client asked view
 view_current state client asked view reads kept limitless read =
     let locked : List (Key × Mode) = plan client asked view.places.items in

@@ -20,7 +20,7 @@ use Rattle.hops_base.specs.Ids.{client}
 use Rattle.commit_log.specs.OneClient.{Turn, calls_made, opens_turn, does_turn, turns_book, turn_line, turns_lines}
 use Rattle.commit_log.proofs.OneClientLaws.{turns_book-push, turns_lines-push, calls_made-push, length-turns_book}
 use Rattle.db_state.specs.Settings.{Settings}
-use Rattle.db_state.specs.State.{State}
+use Rattle.db_state.specs.Stored.{Stored}
 use Rattle.hops_cli.specs.Built.{is_built}
 use Rattle.hops_cli.specs.Run.{rows_read, TellsReads}
 use Rattle.hops_cli.specs.Turning.{IsLimitless, IsNew, IsReady, IsTurned, AreTurned}
@@ -37,7 +37,7 @@ all_take (suc count) (one ∷ calls) e = both (is_built one) (list_all is_built 
     both false b is also = is
 
 -- before any call nothing was told
-pub none_turned : (user : List ℕ) (calls : List Call) (state : State) (lines : List AnswerLine) → IsNew (user ∷ []) state lines → AreTurned (user ∷ []) calls 0 state lines
+pub none_turned : (user : List ℕ) (calls : List Call) (state : Stored) (lines : List AnswerLine) → IsNew (user ∷ []) state lines → AreTurned (user ∷ []) calls 0 state lines
 none_turned user calls state lines new =
     let next : state.next ≡ 2 = new.next in
     record {
@@ -51,7 +51,7 @@ none_turned user calls state lines new =
     }
 
 -- the next call can be answered
-pub ready : (user : List ℕ) (calls : List Call) (count : ℕ) (state : State) (lines : List AnswerLine) → list_all is_built calls ≡ true → count ≤ 65536 → AreTurned (user ∷ []) calls count state lines → IsReady state user
+pub ready : (user : List ℕ) (calls : List Call) (count : ℕ) (state : Stored) (lines : List AnswerLine) → list_all is_built calls ≡ true → count ≤ 65536 → AreTurned (user ∷ []) calls count state lines → IsReady state user
 ready user calls count state lines runnable few so_far =
     let bound : state.next ≤ 2 + 1000 * count = so_far.few in
     let runs : list_all is_built (calls_made so_far.turns) ≡ true = ap (list_all is_built) so_far.made ∙ all_take count calls runnable in
@@ -62,7 +62,7 @@ ready user calls count state lines runnable few so_far =
     }
 
 -- the notes that open and answer it tell the rows read for its path
-read_more : (users : List (List ℕ)) (old new : State) (number : ℕ) (asked : Call) (end : CallEnd) → old.settings.users ≡ users → Each (TellsReads users) old.notes → IsTurned old new number asked end → Each (TellsReads users) new.notes
+read_more : (users : List (List ℕ)) (old new : Stored) (number : ℕ) (asked : Call) (end : CallEnd) → old.settings.users ≡ users → Each (TellsReads users) old.notes → IsTurned old new number asked end → Each (TellsReads users) new.notes
 read_more users old new number asked end acting so_far turn =
     let this : Turn = record { call = asked; reads = turn.reads; reply = turn.reply } in
     let read : turn.reads ≡ sum_by (rows_read (space users (old.notes ++ opens_turn number ∷ []))) (paths_of asked) =
@@ -73,7 +73,7 @@ read_more users old new number asked end acting so_far turn =
     (Each-push (TellsReads users) (old.notes ++ opens_turn number ∷ []) (does_turn number this) (Each-push (TellsReads users) old.notes (opens_turn number) so_far tt) read)
 
 -- once it is answered, one call more is
-pub turned : (users : List (List ℕ)) (calls : List Call) (count : ℕ) (old new : State) (lines after : List AnswerLine) (asked : Call) (end : CallEnd)
+pub turned : (users : List (List ℕ)) (calls : List Call) (count : ℕ) (old new : Stored) (lines after : List AnswerLine) (asked : Call) (end : CallEnd)
     → count < length calls → get_or calls count asked ≡ asked → AreTurned users calls count old lines → IsTurned old new (count + 1) asked end
     → after ≡ lines ++ record { client = client 0; call = count + 1; end = end } ∷ [] → AreTurned users calls (count + 1) new after
 turned users calls count old new lines after asked end within is so_far turn pushed =

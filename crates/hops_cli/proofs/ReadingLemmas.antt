@@ -9,7 +9,7 @@ use Rattle.hops_base.specs.Name.{is_name}
 use Rattle.inode_table.specs.declared.inode.Inode.{Inode}
 use Rattle.inode_table.specs.declared.inode.Kind.{Kind}
 use Rattle.inode_table.specs.declared.inode.Kind.TheVariants.{Dir, File}
-use Rattle.db_state.specs.State.{Inodes, root_key, root_row}
+use Rattle.db_state.specs.Stored.{Inodes, root_key, root_row}
 use Rattle.db_state.specs.declared.view.Place.{Place}
 use Rattle.db_state.specs.Current.{stops_at, IsLastsChild}
 use Rattle.db_state.specs.PlaceOf.{IsFound}

@@ -15,7 +15,7 @@ use Rattle.commit_log.proofs.SpaceLaws.{space-none}
 use Rattle.hops_base.specs.Ids.{client}
 use Rattle.commit_log.specs.OneClient.{Turn, calls_made, replies_told, turns_book, turns_lines, MadeBy, IsSingleRun}
 use Rattle.commit_log.proofs.OneClientLaws.{single_told, single_kept, replies-from_legal, space-turns_book, made-none, made-one}
-use Rattle.db_state.specs.State.{State}
+use Rattle.db_state.specs.Stored.{Stored}
 use Rattle.hops_cli.specs.Built.{IsBuilt}
 use Rattle.hops_cli.specs.Run.{reply_in, TellsReads, IsPlainRun, IsRun}
 use Rattle.hops_cli.specs.Turning.{AreTurned, AreAllTurned}
@@ -60,7 +60,7 @@ run_none script notes lines tree small none book told legal names shown =
     (subst (λ (cs : List ClientCalls). IsPlainRun cs [] (space (list_map (λ (c : ClientCalls). c.user) cs) [])) (sym none) (refl, space-none []))
 
 -- the run of one client all of whose calls were answered
-run_one : (script : Script) (one : ClientCalls) (state : State) (lines : List AnswerLine) (tree : Namespace) → IsBuilt script → script.clients ≡ one ∷ []
+run_one : (script : Script) (one : ClientCalls) (state : Stored) (lines : List AnswerLine) (tree : Namespace) → IsBuilt script → script.clients ≡ one ∷ []
     → AreTurned (one.user ∷ []) one.calls (length one.calls) state lines → Legal (users_of script) state.notes → IsNamespace tree → tree ≡ space (users_of script) state.notes → IsRun script state.notes lines tree
 run_one script one state lines tree small is done legal names shown =
     let turns : List Turn = done.turns in
@@ -76,7 +76,7 @@ run_one script one state lines tree small is done legal names shown =
     (subst (λ (cs : List ClientCalls). IsPlainRun cs (turns_lines 0 turns) (space (list_map (λ (c : ClientCalls). c.user) cs) (turns_book 0 turns))) (sym is) (replies, last))
 
 -- the run of a small script all of whose calls were answered
-pub run_all : (script : Script) (clients : List ClientCalls) (state : State) (notes : List Note) (lines : List AnswerLine) (tree : Namespace) → IsBuilt script → script.clients ≡ clients → AreAllTurned clients state lines
+pub run_all : (script : Script) (clients : List ClientCalls) (state : Stored) (notes : List Note) (lines : List AnswerLine) (tree : Namespace) → IsBuilt script → script.clients ≡ clients → AreAllTurned clients state lines
     → Legal state.settings.users state.notes → IsNamespace tree → notes ≡ state.notes → tree ≡ space state.settings.users state.notes → IsRun script notes lines tree
 run_all script [] state notes lines tree small is done legal names same shown =
     let users : state.settings.users ≡ users_of script = done.2 ∙ sym (ap (list_map (λ (c : ClientCalls). c.user)) is) in

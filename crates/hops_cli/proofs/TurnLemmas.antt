@@ -19,7 +19,7 @@ use Rattle.commit_log.proofs.NumberingLaws.{ids-push}
 use Rattle.commit_log.proofs.IdLaws.{ids-exists, ids-quiet}
 use Rattle.hops_base.specs.Ids.{session, client}
 use Rattle.commit_log.specs.OneClient.{Turn, opens_turn, does_turn}
-use Rattle.db_state.specs.State.{State, Tables}
+use Rattle.db_state.specs.Stored.{Stored, Tables}
 use Rattle.db_state.specs.Spelled.{AreGiven}
 use Rattle.db_state.specs.Stands.{Stands}
 use Rattle.db_state.specs.Counts.{Counts}
@@ -31,7 +31,7 @@ use Rattle.db_state.specs.declared.writes.Row.{Row}
 use Rattle.db_state.specs.CallsTable.{IsNumberedBy, IsAnswer}
 
 -- what is appended is a turn of the one client
-module _ (state : State) (user : List ℕ) (asked : Call) (number reads : ℕ) (reply : Reply)
+module _ (state : Stored) (user : List ℕ) (asked : Call) (number reads : ℕ) (reply : Reply)
     (kept : IsConsistent state) (acts : slice_get state.settings.users 0 ≡ Some user) where
   abbrev before : Namespace
   before = space state.settings.users state.notes

@@ -9,7 +9,7 @@ use Rattle.name_space.specs.Call.{paths_of}
 use Rattle.name_space.specs.Namespace.{Path}
 use Rattle.db_state.specs.declared.view.Place.{Place}
 use Rattle.db_state.specs.declared.view.View.{View}
-use Rattle.db_state.specs.State.{Inodes, State}
+use Rattle.db_state.specs.Stored.{Inodes, Stored}
 use Rattle.db_state.specs.Current.{children_told, Leads, IsMissing}
 use Rattle.db_state.specs.PlaceOf.{IsFound, IsPlaceOf}
 
@@ -33,7 +33,7 @@ pub record IsResolved (inodes : Inodes) (path : Path) (place : Place) (reads : �
 
 -- the view is what the rows have for the one path of the call, with the children that a `list` tells and without quota
 -- rows
-pub record IsViewAt (state : State) (call : Call) (view : View) (reads : ℕ) : Type 0 where
+pub record IsViewAt (state : Stored) (call : Call) (view : View) (reads : ℕ) : Type 0 where
   pub path : Path
   pub place : Place
   pub one : paths_of call ≡ path ∷ []

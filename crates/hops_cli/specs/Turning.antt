@@ -15,7 +15,7 @@ use Rattle.commit_log.specs.declared.answer.CallEnd.TheVariants.{Done}
 use Rattle.commit_log.specs.Along.{Each}
 use Rattle.commit_log.specs.Legal.{space}
 use Rattle.commit_log.specs.OneClient.{Turn, calls_made, opens_turn, does_turn, turns_book, turns_lines}
-use Rattle.db_state.specs.State.{State}
+use Rattle.db_state.specs.Stored.{Stored}
 use Rattle.hops_cli.specs.Run.{rows_read, TellsReads}
 
 -- the entry has a quota
@@ -33,20 +33,20 @@ abbrev pub users_in : List ClientCalls → List (List ℕ)
 users_in clients = map (λ (c : ClientCalls). c.user) clients
 
 -- before any call of clients that act for these users
-pub record IsNew (users : List (List ℕ)) (state : State) (lines : List AnswerLine) : Type 0 where
+pub record IsNew (users : List (List ℕ)) (state : Stored) (lines : List AnswerLine) : Type 0 where
   pub book : state.notes ≡ []
   pub none : lines ≡ []
   pub acting : state.settings.users ≡ users
   pub next : state.next ≡ 2
 
 -- the next call of the one client, whose user this is, can be answered
-pub record IsReady (state : State) (user : List ℕ) : Type 0 where
+pub record IsReady (state : Stored) (user : List ℕ) : Type 0 where
   pub acts : slice_get state.settings.users 0 ≡ Some user
   pub limitless : IsLimitless (space state.settings.users state.notes)
   pub room : state.next + most_path_names < 2 ^ 64
 
 -- one commit opened and answered the call of this number, and tells the rows read for its path
-pub record IsTurned (old new : State) (number : ℕ) (call : Call) (end : CallEnd) : Type 0 where
+pub record IsTurned (old new : Stored) (number : ℕ) (call : Call) (end : CallEnd) : Type 0 where
   pub reads : ℕ
   pub reply : Reply
   pub notes : new.notes ≡ old.notes ++ opens_turn number ∷ does_turn number (record { call = call; reads = reads; reply = reply }) ∷ []
@@ -56,7 +56,7 @@ pub record IsTurned (old new : State) (number : ℕ) (call : Call) (end : CallEn
   pub few : new.next ≤ old.next + most_path_names
 
 -- so many of the calls have been answered, each telling the rows read for its path, and nothing else was written
-pub record AreTurned (users : List (List ℕ)) (calls : List Call) (count : ℕ) (state : State) (lines : List AnswerLine) : Type 0 where
+pub record AreTurned (users : List (List ℕ)) (calls : List Call) (count : ℕ) (state : Stored) (lines : List AnswerLine) : Type 0 where
   pub turns : List Turn
   pub made : calls_made turns ≡ take count calls
   pub notes : state.notes ≡ turns_book 0 turns
@@ -66,7 +66,7 @@ pub record AreTurned (users : List (List ℕ)) (calls : List Call) (count : ℕ)
   pub few : state.next ≤ 2 + most_path_names * count
 
 -- all calls of all clients have been answered: there is at most one
-abbrev pub AreAllTurned : List ClientCalls → State → List AnswerLine → Type 0
+abbrev pub AreAllTurned : List ClientCalls → Stored → List AnswerLine → Type 0
 AreAllTurned [] state lines = (state.notes ≡ []) × (lines ≡ []) × (state.settings.users ≡ [])
 AreAllTurned (one ∷ []) state lines = AreTurned (one.user ∷ []) one.calls (length one.calls) state lines
 AreAllTurned (one ∷ other ∷ more) state lines = ⊥

@@ -11,7 +11,7 @@ ghost use Rattle.hops_cli.specs.Turning.{users_in, IsNew, IsReady, IsTurned, Are
 
 use crate::resolve::view_of;
 use commit_log::{AnswerLine, Book, CallEnd, Note};
-use db_state::{Db, Outcome, Settings, tree_of};
+use db_state::{Outcome, Settings, Store, tree_of};
 use hops_base::{ClientNo, NoMemory, NodeNo, SessionId, StopList, User, UserList};
 use inode_ops::outcome;
 use name_space::{Call, laws};
@@ -41,7 +41,7 @@ pub fn run(alloc: Global, script: &Script) -> Result<Ran, NoMemory>
     ensures { IfOk result (λ ran. IsRun script.now ran.book.notes ran.answers.items ran.tree.items) }
 {
     let settings = settings_of(alloc, script)?;
-    let mut db = Db::start(alloc, &settings)?;
+    let mut db = Store::start(alloc, &settings)?;
     let mut answers = AnswerList::new(alloc);
     run_clients(alloc, &mut db, script.clients(), &mut answers)?;
     db.consistent();
@@ -74,7 +74,7 @@ fn settings_of(alloc: Global, script: &Script) -> Result<Settings, NoMemory>
 // There is at most one client.
 fn run_clients(
     alloc: Global,
-    db: &mut Db,
+    db: &mut Store,
     clients: &[ClientCalls],
     answers: &mut AnswerList,
 ) -> Result<(), NoMemory>
@@ -93,7 +93,7 @@ fn run_clients(
 
 fn run_client(
     alloc: Global,
-    db: &mut Db,
+    db: &mut Store,
     client: &ClientCalls,
     answers: &mut AnswerList,
 ) -> Result<(), NoMemory>
@@ -118,7 +118,7 @@ fn run_client(
 // One commit opens the call's session and answers it.
 fn run_call(
     alloc: Global,
-    db: &mut Db,
+    db: &mut Store,
     number: u32,
     user: &User,
     call: &Call,

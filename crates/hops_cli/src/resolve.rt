@@ -2,14 +2,14 @@
 
 ghost use Rattle.std.specs.Prelude.{◌≡◌, ◌+◌, ◌≤◌, ◌<◌, ◌^◌, [], ◌∷◌, true, length, option_copied, option_to_list, IfOk};
 ghost use Rattle.hops_base.specs.Path.{most_path_names};
-ghost use Rattle.db_state.specs.State.{root_key, root_row};
+ghost use Rattle.db_state.specs.Stored.{root_key, root_row};
 ghost use Rattle.db_state.specs.Plan.{own_dir};
 ghost use Rattle.db_state.specs.Current.{children_told, IsLastsChild};
 ghost use Rattle.name_space.specs.Call.{is_valid, paths_of};
 ghost use Rattle.hops_cli.specs.Built.{is_built};
 ghost use Rattle.hops_cli.specs.Reading.{IsRead, IsResolved, IsViewAt};
 
-use db_state::{Db, FoundList, Place, PlaceList, QuotaList, View, listing_of};
+use db_state::{FoundList, Place, PlaceList, QuotaList, Store, View, listing_of};
 use hops_base::{ItemList, Key, Name, NoMemory, Path};
 use inode_table::{Inode, Kind};
 use name_space::{Call, Listing};
@@ -17,7 +17,7 @@ use std::alloc::Global;
 
 /// What a call reads of the tables, and how many rows it read to resolve its path. No call that is built makes
 /// quota rows, so none are read.
-pub fn view_of(alloc: Global, db: &Db, call: &Call) -> Result<(View, u64), NoMemory>
+pub fn view_of(alloc: Global, db: &Store, call: &Call) -> Result<(View, u64), NoMemory>
     requires small { is_built call.now ≡ true }
     requires valid { is_valid call.now ≡ true }
     ensures { IfOk result (λ viewed. IsViewAt db.now call.now viewed.0 viewed.1) }
@@ -55,7 +55,7 @@ fn path_of(call: &Call) -> &Path
 }
 
 // The children that a `list` tells, where its path was found whole and is a directory.
-fn children_of(alloc: Global, db: &Db, call: &Call, place: &Place) -> Result<Listing, NoMemory>
+fn children_of(alloc: Global, db: &Store, call: &Call, place: &Place) -> Result<Listing, NoMemory>
     requires { is_built call.now ≡ true }
     ensures { IfOk result (λ children. children.items ≡ children_told db.now.inodes call.now (place.now ∷ [])) }
 {
@@ -83,7 +83,7 @@ fn own_dir(place: &Place) -> Option<&Inode>
 
 // Reads the rows of the path from the root's on, which needs no read, up to the end of the path, its first
 // missing name or a file.
-fn resolve(alloc: Global, db: &Db, path: &Path) -> Result<(Place, u64), NoMemory>
+fn resolve(alloc: Global, db: &Store, path: &Path) -> Result<(Place, u64), NoMemory>
     requires { length path.now ≤ most_path_names }
     ensures { IfOk result (λ resolved. IsResolved db.now.inodes path.now resolved.0 resolved.1) }
 {
@@ -100,7 +100,7 @@ fn resolve(alloc: Global, db: &Db, path: &Path) -> Result<(Place, u64), NoMemory
 }
 
 // The root's row, with room for so many more.
-fn root_alone(alloc: Global, db: &Db, more: u64) -> Result<FoundList, NoMemory>
+fn root_alone(alloc: Global, db: &Store, more: u64) -> Result<FoundList, NoMemory>
     requires { more + 1 < 2 ^ 64 }
     ensures rows { IfOk result (λ found. found.items ≡ (root_key, root_row) ∷ []) }
     ensures room { IfOk result (λ found. more + 1 ≤ found.room) }
@@ -116,7 +116,7 @@ fn root_alone(alloc: Global, db: &Db, more: u64) -> Result<FoundList, NoMemory>
 // Adds the rows of the names below this one. Tells the key of the first missing one, and how many rows were
 // read.
 fn read_below(
-    db: &Db,
+    db: &Store,
     row: &Inode,
     names: &[Name],
     found: &mut FoundList,
@@ -140,7 +140,7 @@ fn read_below(
 }
 
 // Whether the last row found has a child.
-fn has_child(db: &Db, found: &FoundList) -> bool
+fn has_child(db: &Store, found: &FoundList) -> bool
     ensures { IsLastsChild db.now.inodes found.now.items result }
 {
     match found.as_slice().last() {

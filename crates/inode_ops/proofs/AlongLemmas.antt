@@ -9,7 +9,7 @@ use Rattle.hops_base.specs.declared.key.Key.{Key}
 use Rattle.name_space.specs.Namespace.{Namespace, Path, is_within}
 use Rattle.inode_table.specs.declared.inode.Inode.{Inode}
 use Rattle.quota_table.specs.declared.quota.QuotaRow.{QuotaRow}
-use Rattle.db_state.specs.State.{Tables}
+use Rattle.db_state.specs.Stored.{Tables}
 use Rattle.db_state.specs.Spelled.{spelled, row_of}
 use Rattle.db_state.specs.Stands.{Quotas, quota_of}
 use Rattle.db_state.specs.Written.{written}

@@ -18,7 +18,7 @@ use Rattle.commit_log.specs.declared.note.Note.TheVariants.{Did}
 use Rattle.commit_log.specs.Ids.{Numbering, id_at, with_new, move_of, move_in, numbering_after}
 use Rattle.commit_log.proofs.NumberLaws.{numbering-missing}
 use Rattle.inode_table.specs.declared.inode.Inode.{Inode}
-use Rattle.db_state.specs.State.{Tables}
+use Rattle.db_state.specs.Stored.{Tables}
 use Rattle.db_state.specs.Spelled.{row_of, FitsKind, IsTree}
 use Rattle.db_state.specs.Stands.{entry_of, Stands}
 use Rattle.db_state.specs.Counts.{Counts}

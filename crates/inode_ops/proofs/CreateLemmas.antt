@@ -26,7 +26,7 @@ use Rattle.inode_table.specs.declared.inode.Inode.{Inode}
 use Rattle.inode_table.specs.declared.inode.Kind.{Kind}
 use Rattle.inode_table.specs.declared.inode.Kind.TheVariants.{Dir, File}
 use Rattle.quota_table.specs.declared.quota.QuotaRow.{QuotaRow}
-use Rattle.db_state.specs.State.{Tables}
+use Rattle.db_state.specs.Stored.{Tables}
 use Rattle.db_state.specs.Stands.{entry_of, entry_of_kind, quota_of}
 use Rattle.db_state.specs.Current.{SpellsPlace, is_locked}
 use Rattle.db_state.specs.Plan.{deepest, is_whole, last_found, plan, in_mode, low, next, quotas, writer_lease, lease}

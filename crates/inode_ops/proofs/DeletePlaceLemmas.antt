@@ -16,7 +16,7 @@ use Rattle.hops_base.proofs.Tells.{keys_tell}
 use Rattle.name_space.specs.Namespace.{Namespace, Path, children}
 use Rattle.inode_table.specs.declared.inode.Inode.{Inode}
 use Rattle.quota_table.specs.declared.quota.QuotaRow.{QuotaRow}
-use Rattle.db_state.specs.State.{Tables}
+use Rattle.db_state.specs.Stored.{Tables}
 use Rattle.db_state.specs.Spelled.{Inodes, spelled, row_of}
 use Rattle.db_state.specs.Stands.{quota_of}
 use Rattle.db_state.specs.Current.{Leads, Spells, SpellsPlace, IsThere, KnowsChild, is_locked}

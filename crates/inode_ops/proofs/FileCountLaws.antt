@@ -11,7 +11,7 @@ use Rattle.name_space.proofs.NamespaceLaws.{Rises-with_dirs}
 use Rattle.name_space.proofs.UsedLaws.{used_names-with_old, used_bytes-with_old}
 use Rattle.inode_table.specs.declared.inode.Inode.{Inode}
 use Rattle.inode_table.specs.declared.inode.Kind.TheVariants.{Dir}
-use Rattle.db_state.specs.State.{Tables}
+use Rattle.db_state.specs.Stored.{Tables}
 use Rattle.db_state.specs.Spelled.{Inodes, spelled, IsTree}
 use Rattle.db_state.specs.Stands.{Quotas, Stands}
 use Rattle.db_state.specs.Counts.{Counts}

@@ -1,5 +1,5 @@
 -- Laws of rows that grow by a chain of new directories and a new file below them.
-use Rattle.std.proofs.Common.{◌≡◌, ℕ, ◌+◌, ◌≤◌, max, List, [], ◌∷◌, ◌++◌, length, reverse, Bool, true, false, cond, Option, Some, None, option_and_then, arith, add-zero, suc, refl, sym, ap, subst, ◌∙◌}
+use Rattle.std.proofs.Common.{◌≡◌, ℕ, ◌+◌, max, List, [], ◌∷◌, ◌++◌, length, reverse, Bool, true, false, cond, Option, Some, None, option_and_then, arith, add-zero, suc, refl, sym, ap, subst, ◌∙◌}
 use Rattle.std.specs.FinMap as map
 use Rattle.std.proofs.lemmas.List.{reverse-reverse, append_assoc, append-nil}
 use Rattle.hops_base.specs.declared.ids.ClientNo.{ClientNo}
@@ -16,7 +16,7 @@ use Rattle.name_space.proofs.NamespaceLaws.{entry_at-with_entry}
 use Rattle.inode_table.specs.declared.inode.Inode.{Inode}
 use Rattle.inode_table.specs.declared.inode.Kind.TheVariants.{Dir}
 use Rattle.commit_log.specs.Ids.{Numbering, with_new}
-use Rattle.db_state.specs.State.{Tables, dir_row}
+use Rattle.db_state.specs.Stored.{Tables, dir_row}
 use Rattle.db_state.specs.Spelled.{Inodes, spelled, IsTree, AreGiven}
 use Rattle.db_state.specs.Stands.{Quotas, entry_of, Stands}
 use Rattle.db_state.specs.Consistent.{flag_at}

@@ -27,7 +27,7 @@ use Rattle.commit_log.specs.Ids.{Numbering, with_new, move_of, move_in, numberin
 use Rattle.commit_log.proofs.NumberLaws.{numbering-missing}
 use Rattle.inode_table.specs.declared.inode.Kind.TheVariants.{Dir}
 use Rattle.quota_table.specs.declared.quota.QuotaRow.{QuotaRow}
-use Rattle.db_state.specs.State.{Tables}
+use Rattle.db_state.specs.Stored.{Tables}
 use Rattle.db_state.specs.Consistent.{flag_at}
 use Rattle.db_state.specs.Spelled.{Inodes, IsTree, AreGiven}
 use Rattle.db_state.specs.Stands.{Stands}

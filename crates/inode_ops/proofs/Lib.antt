@@ -6,10 +6,13 @@ pub mod CreateLemmas
 pub mod CreateRules
 pub mod DeleteLemmas
 pub mod DeletePlaceLemmas
+pub mod ExampleLemmas
 pub mod FileCountLaws
 pub mod FileLaws
 pub mod FileRowLemmas
 pub mod FiledLemmas
+pub mod KeepLemmas
+pub mod KeepOutcomes
 pub mod ListLemmas
 pub mod MadeLemmas
 pub mod MissingLemmas

@@ -13,7 +13,7 @@ use Rattle.hops_base.specs.Key.{same_key, number_of}
 use Rattle.hops_base.proofs.Tells.{key_cmp_exact}
 use Rattle.db_state.specs.declared.writes.Row.{Row}
 use Rattle.db_state.specs.declared.writes.Row.TheVariants as row
-use Rattle.db_state.specs.State.{dir_row}
+use Rattle.db_state.specs.Stored.{dir_row}
 use Rattle.db_state.specs.NewDirs.{new_dirs}
 
 -- the number of the key is below n

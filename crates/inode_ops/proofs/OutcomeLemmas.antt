@@ -30,7 +30,7 @@ use Rattle.inode_table.specs.declared.inode.Inode.{Inode}
 use Rattle.inode_table.specs.declared.inode.Kind.{Kind}
 use Rattle.inode_table.specs.declared.inode.Kind.TheVariants.{Dir, File}
 use Rattle.quota_table.specs.declared.quota.QuotaRow.{QuotaRow}
-use Rattle.db_state.specs.State.{Tables}
+use Rattle.db_state.specs.Stored.{Tables}
 use Rattle.db_state.specs.Stands.{entry_of, entry_of_kind, quota_of}
 use Rattle.db_state.specs.Current.{IsCurrentPlace, SpellsPlace, is_locked}
 use Rattle.db_state.specs.Plan.{is_whole, plan, in_mode, low, next, quotas, last_found}

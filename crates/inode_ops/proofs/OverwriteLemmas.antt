@@ -27,7 +27,7 @@ use Rattle.inode_table.specs.declared.inode.Inode.{Inode}
 use Rattle.inode_table.specs.declared.inode.Kind.{Kind}
 use Rattle.inode_table.specs.declared.inode.Kind.TheVariants.{Dir, File}
 use Rattle.quota_table.specs.declared.quota.QuotaRow.{QuotaRow}
-use Rattle.db_state.specs.State.{Tables, root_key, root_row}
+use Rattle.db_state.specs.Stored.{Tables, root_key, root_row}
 use Rattle.db_state.specs.Consistent.{flag_at}
 use Rattle.db_state.specs.Spelled.{Inodes, spelled, row_of, IsTree}
 use Rattle.db_state.specs.Stands.{quota_of, entry_of, entry_of_kind, Stands}

@@ -52,14 +52,14 @@ use Rattle.inode_ops.proofs.QuotaLemmas.{LocksQuota}
 -- ---- what a current view has
 
 -- the keys that are locked, where these are locked Exclusive
-abbrev all_own : List Key → ClientNo → List (Key × Mode)
+abbrev pub all_own : List Key → ClientNo → List (Key × Mode)
 all_own ks client = (in_mode Exclusive ks ++ []) ++ (key.Reply client, Exclusive) ∷ []
 
 module _ (inodes : Inodes) (quota_rows : Quotas) (own : Option OpId) (client : ClientNo) (asked : Call) (view : View) (place : Place) (one : view.places.items ≡ place ∷ []) (current : IsCurrent inodes quota_rows own client asked view) where
-  sees_of : SeesQuotas quota_rows (plan client asked (place ∷ [])) view.quotas.items
+  pub sees_of : SeesQuotas quota_rows (plan client asked (place ∷ [])) view.quotas.items
   sees_of = subst (λ (places : List Place). SeesQuotas quota_rows (plan client asked places) view.quotas.items) one current.quotas
 
-  rows_of : IsWalk inodes (plan client asked (place ∷ [])) place
+  pub rows_of : IsWalk inodes (plan client asked (place ∷ [])) place
   rows_of =
       let here : AllByRecursion (IsCurrentPlace inodes (plan client asked (place ∷ [])) own) (place ∷ []) = subst (λ (places : List Place). AllByRecursion (IsCurrentPlace inodes (plan client asked places) own) places) one current.current in
       walk_of inodes (plan client asked (place ∷ [])) place here.0.spells here.0.there
@@ -73,7 +73,7 @@ none_may : (locked : List (Key × Mode)) (next : ℕ) (writes : List (Key × Opt
 none_may locked next writes is = subst (AllByRecursion (MayWrite locked next)) (sym is) tt
 
 module _ (inodes : Inodes) (quota_rows : Quotas) (ks : List Key) (client : ClientNo) (view : View) (place : Place) (sees : SeesQuotas quota_rows (all_own ks client) view.quotas.items) (walk : IsWalk inodes (all_own ks client) place) where
-  last_is : last_found place ≡ Some walk.down.bottom
+  pub last_is : last_found place ≡ Some walk.down.bottom
   last_is = last_from place walk.first walk.down.bottom walk.rows walk.items walk.down.found
 
   -- the quota rows found may be written behind other rows
@@ -84,7 +84,7 @@ module _ (inodes : Inodes) (quota_rows : Quotas) (ks : List Key) (client : Clien
       (quotas_may (all_own ks client) view.next.0 rows view.quotas.items goes.0 change (seen_own quota_rows ks client view.quotas.items sees) goes.2.each))
 
   -- the last row found may be, where its key is locked
-  low_may : ((k : Key) → list_any (same_key k) (low place) ≡ true → list_any (same_key k) ks ≡ true) → is_own (all_own ks client) walk.down.bottom.0 ≡ true
+  pub low_may : ((k : Key) → list_any (same_key k) (low place) ≡ true → list_any (same_key k) ks ≡ true) → is_own (all_own ks client) walk.down.bottom.0 ≡ true
   low_may low_in = own_among ks client walk.down.bottom.0 (low_in walk.down.bottom.0 (low_among place walk.down.bottom last_is))
 
   -- the first missing name may be, where the next key is locked
@@ -109,7 +109,7 @@ among_second a b c k e =
     list_any-append (same_key k) (a ++ b) c ∙ or_left (list_any (same_key k) (a ++ b)) (list_any (same_key k) c)
     (list_any-append (same_key k) a b ∙ or_right (list_any (same_key k) a) (list_any (same_key k) b) e)
 
-abbrev mkdirs_keys : Place → List Key
+abbrev pub mkdirs_keys : Place → List Key
 mkdirs_keys place = low place ++ next place ++ where_so (not (is_whole place)) (quotas place)
 
 module _ (inodes : Inodes) (quota_rows : Quotas) (client : ClientNo) (user : List ℕ) (view : View) (place : Place) (sees : SeesQuotas quota_rows (all_own (mkdirs_keys place) client) view.quotas.items) (walk : IsWalk inodes (all_own (mkdirs_keys place) client) place) where
@@ -162,11 +162,11 @@ stat_own view client asked place path (Ok outcome) is first call_is answers =
 
 -- ---- `create`
 
-abbrev create_keys : ClientNo → Place → List Key
+abbrev pub create_keys : ClientNo → Place → List Key
 create_keys client place = low place ++ next place ++ quotas place ++ writer_lease place ++ lease client place
 
 module _ (inodes : Inodes) (quota_rows : Quotas) (client : ClientNo) (user : List ℕ) (view : View) (place : Place) (sees : SeesQuotas quota_rows (all_own (create_keys client place) client) view.quotas.items) (walk : IsWalk inodes (all_own (create_keys client place) client) place) where
-  low_in : (k : Key) → list_any (same_key k) (low place) ≡ true → list_any (same_key k) (create_keys client place) ≡ true
+  pub low_in : (k : Key) → list_any (same_key k) (low place) ≡ true → list_any (same_key k) (create_keys client place) ≡ true
   low_in k e = first_parts k (low place) (next place) (quotas place) (writer_lease place) (lease client place)
       (list_any-append (same_key k) (low place ++ next place) (quotas place) ∙ or_left (list_any (same_key k) (low place ++ next place)) (list_any (same_key k) (quotas place))
       (list_any-append (same_key k) (low place) (next place) ∙ or_left (list_any (same_key k) (low place)) (list_any (same_key k) (next place)) e))
@@ -221,7 +221,7 @@ removals_may locked next found here quota = (or_left (is_own locked found.0) (is
     by_mark true has = (or_left (is_own locked (key.Quota found.1.id)) false (quota has), tt)
     by_mark false has = tt
 
-abbrev delete_keys : Place → List Key
+abbrev pub delete_keys : Place → List Key
 delete_keys place = low place ++ where_so (is_whole place) (parent place ++ writer_lease place ++ quotas place)
 
 module _ (inodes : Inodes) (quota_rows : Quotas) (client : ClientNo) (view : View) (place : Place) (sees : SeesQuotas quota_rows (all_own (delete_keys place) client) view.quotas.items) (walk : IsWalk inodes (all_own (delete_keys place) client) place) where

@@ -12,7 +12,7 @@ use Rattle.name_space.proofs.ChainLaws.{missing-below}
 use Rattle.inode_table.specs.declared.inode.Inode.{Inode}
 use Rattle.inode_table.specs.declared.inode.Kind.TheVariants.{Dir}
 use Rattle.quota_table.specs.declared.quota.QuotaRow.{QuotaRow}
-use Rattle.db_state.specs.State.{Tables}
+use Rattle.db_state.specs.Stored.{Tables}
 use Rattle.db_state.specs.Spelled.{Inodes, child_of, spelled, IsTree}
 use Rattle.db_state.specs.Stands.{entry_of, Stands}
 use Rattle.db_state.specs.Counts.{Counts}

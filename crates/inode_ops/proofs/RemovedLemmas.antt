@@ -23,7 +23,7 @@ use Rattle.commit_log.specs.declared.note.Note.{Note}
 use Rattle.commit_log.specs.Ids.{Numbering, id_at, with_new, move_in, moved_ids, unnumbered, numbering_after}
 use Rattle.inode_table.specs.declared.inode.Inode.{Inode}
 use Rattle.quota_table.specs.declared.quota.QuotaRow.{QuotaRow}
-use Rattle.db_state.specs.State.{Tables, root_key}
+use Rattle.db_state.specs.Stored.{Tables, root_key}
 use Rattle.db_state.specs.Spelled.{Inodes, spelled, row_of, IsTree, AreGiven}
 use Rattle.db_state.specs.Stands.{Quotas, quota_of, entry_of, Stands}
 use Rattle.db_state.specs.Counts.{Counts}

@@ -27,12 +27,12 @@ use Rattle.commit_log.specs.Ids.{Numbering, id_at, with_new, move_of, move_in, n
 use Rattle.commit_log.proofs.NumberLaws.{numbering-missing}
 use Rattle.inode_table.specs.declared.inode.Kind.TheVariants.{Dir}
 use Rattle.quota_table.specs.declared.quota.QuotaRow.{QuotaRow}
-use Rattle.db_state.specs.State.{Tables}
+use Rattle.db_state.specs.Stored.{Tables}
 use Rattle.db_state.specs.Consistent.{flag_at}
 use Rattle.db_state.specs.Spelled.{Inodes, IsTree, AreGiven}
 use Rattle.db_state.specs.Stands.{Stands}
 use Rattle.db_state.specs.Counts.{Counts}
-use Rattle.db_state.specs.Current.{IsFree}
+use Rattle.db_state.specs.Current.{AreIdsBelow}
 use Rattle.db_state.specs.Written.{written, next_after}
 use Rattle.db_state.specs.declared.view.Place.{Place}
 use Rattle.db_state.specs.declared.view.View.{View}
@@ -54,7 +54,7 @@ use Rattle.inode_ops.proofs.PlaceLemmas.{IsSet, path_is, missing_is, missing_row
 use Rattle.inode_ops.proofs.AlongLemmas.{recounted_raised}
 
 -- rows spell a tree with every next id that is above theirs
-pub tree_at : (inodes : Inodes) (bound next : ℕ) → IsTree inodes bound → IsFree inodes next → IsTree inodes next
+pub tree_at : (inodes : Inodes) (bound next : ℕ) → IsTree inodes bound → AreIdsBelow inodes next → IsTree inodes next
 tree_at inodes bound next tree free = record {
   keys = tree.keys;
   apart = tree.apart;

@@ -15,7 +15,7 @@ use Rattle.name_space.specs.Calls.{plain, as_read}
 use Rattle.commit_log.specs.Ids.{move_of}
 use Rattle.inode_table.specs.declared.inode.Inode.{Inode}
 use Rattle.quota_table.specs.declared.quota.QuotaRow.{QuotaRow}
-use Rattle.db_state.specs.State.{Tables}
+use Rattle.db_state.specs.Stored.{Tables}
 use Rattle.db_state.specs.Spelled.{spelled, row_of}
 use Rattle.db_state.specs.Current.{is_locked}
 use Rattle.db_state.specs.Plan.{in_mode, low, last_found, is_whole, plan}

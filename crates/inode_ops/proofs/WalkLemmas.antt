@@ -15,7 +15,7 @@ use Rattle.name_space.proofs.PathLaws.{is_within-append}
 use Rattle.inode_table.specs.declared.inode.Inode.{Inode}
 use Rattle.inode_table.specs.declared.inode.Kind.{Kind}
 use Rattle.inode_table.specs.declared.inode.Kind.TheVariants.{Dir, File}
-use Rattle.db_state.specs.State.{root_key}
+use Rattle.db_state.specs.Stored.{root_key}
 use Rattle.db_state.specs.Spelled.{Inodes, child_of, spelled, IsTree}
 use Rattle.db_state.specs.Current.{stops_at, Leads, IsThere, IsMissing}
 use Rattle.db_state.proofs.PathLaws.{injective, same_id}

@@ -7,7 +7,7 @@ use Rattle.name_space.specs.Namespace.{Namespace, IsNamespace, with_entry}
 use Rattle.name_space.specs.Plain as plain
 use Rattle.name_space.specs.Plain.{with_dirs}
 use Rattle.commit_log.specs.Ids.{Numbering, with_new}
-use Rattle.db_state.specs.State.{Tables}
+use Rattle.db_state.specs.Stored.{Tables}
 use Rattle.db_state.specs.Spelled.{spelled, IsTree, AreGiven}
 use Rattle.db_state.specs.Stands.{Quotas, Stands}
 use Rattle.db_state.specs.Counts.{Counts}

@@ -1,6 +1,7 @@
 pub mod ChmodSteps
 pub mod CreateSteps
 pub mod DeleteSteps
+pub mod Examples
 pub mod Laws
 pub mod NewFile
 pub mod Outcomes

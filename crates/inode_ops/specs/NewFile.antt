@@ -6,7 +6,7 @@ use Rattle.hops_base.specs.declared.key.Key.TheVariants as key
 use Rattle.name_space.specs.Plain.{file_mode}
 use Rattle.inode_table.specs.declared.inode.Inode.{Inode}
 use Rattle.inode_table.specs.declared.inode.Kind.TheVariants.{File}
-use Rattle.db_state.specs.State.{dir_row}
+use Rattle.db_state.specs.Stored.{dir_row}
 use Rattle.db_state.specs.declared.writes.Row.{Row}
 use Rattle.db_state.specs.declared.writes.Row.TheVariants as row
 

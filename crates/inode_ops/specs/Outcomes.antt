@@ -12,6 +12,7 @@ use Rattle.db_state.specs.declared.view.View.{View}
 use Rattle.db_state.specs.declared.outcome.Outcome.{Outcome}
 use Rattle.db_state.specs.CallsTable.{IsCallsTable}
 use Rattle.db_state.specs.Current.{SpellsPlace}
+use Rattle.db_state.specs.Effects.{KeepsOthers}
 use Rattle.db_state.specs.Locked.{WritesOwn}
 use Rattle.db_state.specs.Plan.{deepest}
 use Rattle.inode_ops.specs.QuotaSteps.{first_full}
@@ -77,3 +78,7 @@ IsTableOf view asked outcome = (client : ClientNo) (user : List ℕ) → IsCalls
 -- the outcome writes no key but those that the call's plan locks and those in new directories, whoever calls
 abbrev pub IsOwnOf : View → Call → Outcome → Type 0
 IsOwnOf view asked outcome = (client : ClientNo) → WritesOwn view client asked outcome
+
+-- the outcome's writes keep the rows that other sessions have read, whoever calls
+abbrev pub IsKeptOf : View → Call → Outcome → Type 0
+IsKeptOf view asked outcome = (client : ClientNo) → KeepsOthers view client asked outcome

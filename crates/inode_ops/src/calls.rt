@@ -1,6 +1,7 @@
 //! The calls on inodes.
 
 ghost use Rattle.std.specs.Prelude.{IfOk};
+ghost use Rattle.db_state.specs.Effects.{KeepsOthers};
 ghost use Rattle.db_state.specs.Locked.{WritesOwn};
 ghost use Rattle.inode_ops.specs.Outcomes.{IsViewOf};
 ghost use Rattle.db_state.specs.CallsTable.{IsCallsTable};
@@ -19,7 +20,9 @@ use std::alloc::Global;
 
 /// The reply to this client's and user's call, and the rows to write, from what the view has. Given consistent tables and
 /// a current view, it replies as the plain call does; after its writes the rows represent the call's namespace. They are
-/// none where the call is refused or only looks. It writes nothing itself, and its one error is want of memory.
+/// none where the call is refused or only looks. Whenever the view is current, they are of keys that the call locks or of
+/// names in new directories, and keep the rows that other sessions have read. It writes nothing itself, and its one error is
+/// want of memory.
 pub fn outcome(
     alloc: Global,
     view: &View,
@@ -30,6 +33,7 @@ pub fn outcome(
     requires { IsViewOf view.now call.now }
     ensures table { IfOk result (IsCallsTable view.now client user.now call.now) }
     ensures own { IfOk result (WritesOwn view.now client call.now) }
+    ensures keeps { IfOk result (KeepsOthers view.now client call.now) }
 {
     let place = only_place(view);
     match call {

@@ -4,7 +4,7 @@ ghost use Rattle.std.specs.Prelude.{◌≡◌, ◌≤◌, length, IfOk};
 ghost use Rattle.name_space.specs.declared.call.Call.TheVariants as call;
 ghost use Rattle.db_state.specs.Plan.{last_found};
 ghost use Rattle.inode_ops.specs.ChmodSteps.{row_with_mode, IsModeSet};
-ghost use Rattle.inode_ops.specs.Outcomes.{IsViewOf, IsTableOf, IsOwnOf};
+ghost use Rattle.inode_ops.specs.Outcomes.{IsViewOf, IsTableOf, IsOwnOf, IsKeptOf};
 
 use crate::place::{is_whole, only_place};
 use crate::told::refused;
@@ -19,6 +19,7 @@ pub fn chmod(alloc: Global, view: &View, path: &Path, mode: u16) -> Result<Outco
     requires { IsViewOf view.now (call.Chmod path.now mode) }
     ensures table { IfOk result (IsTableOf view.now (call.Chmod path.now mode)) }
     ensures own { IfOk result (IsOwnOf view.now (call.Chmod path.now mode)) }
+    ensures keeps { IfOk result (IsKeptOf view.now (call.Chmod path.now mode)) }
 {
     let place = only_place(view);
     if path.len() == 0 {

@@ -3,6 +3,7 @@
 ghost use Rattle.std.specs.Prelude.{◌≡◌, ◌+◌, ◌^◌, ◌<◌, ◌≤◌, length, IfOk};
 ghost use Rattle.name_space.specs.declared.call.Call.TheVariants as call;
 ghost use Rattle.db_state.specs.Current.{SpellsPlace};
+ghost use Rattle.db_state.specs.Effects.{KeepsOthers};
 ghost use Rattle.db_state.specs.Locked.{WritesOwn};
 ghost use Rattle.inode_ops.specs.NewFile.{file_row, new_file_rows, last_dir};
 ghost use Rattle.inode_ops.specs.CreateSteps.{overwritten, AnswersCreate, MakesFile, Overwrites};
@@ -32,6 +33,7 @@ pub fn create(
     requires { IsViewOf view.now (call.Create path.now overwrite) }
     ensures table { IfOk result (IsCallsTable view.now client user.now (call.Create path.now overwrite)) }
     ensures own { IfOk result (WritesOwn view.now client (call.Create path.now overwrite)) }
+    ensures keeps { IfOk result (KeepsOthers view.now client (call.Create path.now overwrite)) }
 {
     let place = only_place(view);
     create_at(alloc, view, place, client, user, overwrite)

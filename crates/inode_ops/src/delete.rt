@@ -4,7 +4,7 @@ ghost use Rattle.std.specs.Prelude.{false, IfOk};
 ghost use Rattle.name_space.specs.declared.call.Call.TheVariants as call;
 ghost use Rattle.db_state.specs.Current.{SpellsPlace};
 ghost use Rattle.inode_ops.specs.DeleteSteps.{RemovesLast, AnswersDelete};
-ghost use Rattle.inode_ops.specs.Outcomes.{IsViewOf, IsTableOf, IsOwnOf};
+ghost use Rattle.inode_ops.specs.Outcomes.{IsViewOf, IsTableOf, IsOwnOf, IsKeptOf};
 
 use crate::place::{is_whole, only_place};
 use crate::quotas::{Change, recount};
@@ -22,6 +22,7 @@ pub fn delete(alloc: Global, view: &View, path: &Path) -> Result<Outcome, NoMemo
     requires { IsViewOf view.now (call.Delete path.now false) }
     ensures table { IfOk result (IsTableOf view.now (call.Delete path.now false)) }
     ensures own { IfOk result (IsOwnOf view.now (call.Delete path.now false)) }
+    ensures keeps { IfOk result (IsKeptOf view.now (call.Delete path.now false)) }
 {
     let place = only_place(view);
     delete_at(alloc, place, view.quotas.as_slice())

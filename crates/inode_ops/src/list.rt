@@ -3,7 +3,7 @@
 ghost use Rattle.std.specs.Prelude.{◌≡◌, ◌∷◌, [], IfOk};
 ghost use Rattle.name_space.specs.declared.call.Call.TheVariants as call;
 ghost use Rattle.db_state.specs.Current.{listed_row};
-ghost use Rattle.inode_ops.specs.Outcomes.{IsViewOf, IsTableOf, IsOwnOf};
+ghost use Rattle.inode_ops.specs.Outcomes.{IsViewOf, IsTableOf, IsOwnOf, IsKeptOf};
 
 use crate::place::{deepest, is_whole, only_place};
 use crate::told::{refused, told};
@@ -19,6 +19,7 @@ pub fn list(alloc: Global, view: &View, path: &Path) -> Result<Outcome, NoMemory
     requires { IsViewOf view.now (call.List path.now) }
     ensures table { IfOk result (IsTableOf view.now (call.List path.now)) }
     ensures own { IfOk result (IsOwnOf view.now (call.List path.now)) }
+    ensures keeps { IfOk result (IsKeptOf view.now (call.List path.now)) }
 {
     let place = only_place(view);
     if !is_whole(place) {

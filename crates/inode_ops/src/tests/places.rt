@@ -2,7 +2,7 @@
 
 ghost use Rattle.std.specs.Prelude.{◌≡◌, ◌<◌, ◌≤◌, [], ◌∷◌, length, IfOk, IfSome};
 ghost use Rattle.hops_base.specs.declared.key.Key.TheVariants as key;
-ghost use Rattle.db_state.specs.State.{root_key};
+ghost use Rattle.db_state.specs.Stored.{root_key};
 ghost use Rattle.db_state.specs.Current.{SpellsPlace};
 ghost use Rattle.db_state.specs.Plan.{deepest};
 ghost use Rattle.inode_table.specs.declared.inode.Kind.TheVariants.{Dir};

@@ -3,7 +3,7 @@ use Rattle.hops_base.specs.Roomy.{Roomy}
 use Rattle.name_space.specs.declared.entry.Entry.{Entry}
 use Rattle.name_space.specs.Namespace.{Path}
 use Rattle.commit_log.specs.Legal.{space}
-use Rattle.db_state.specs.State.{root_key, root_row}
+use Rattle.db_state.specs.Stored.{root_key, root_row}
 use Rattle.db_state.specs.Stands.{entry_of_kind}
 use Rattle.db_state.proofs.WalkLemmas.{IsWalked, IsStep, walked_first, not_missing, step_walked, step_less}
 use Rattle.db_state.proofs.tree.tree_of.Goals as goal

@@ -1,6 +1,4 @@
-use Rattle.std.proofs.Common.{◌≡◌, ℕ, ◌≤◌, List, [], ◌∷◌, ◌++◌, length, ap, ◌∙◌, arith}
-use Rattle.hops_base.specs.declared.ids.InodeId.{InodeId}
-use Rattle.quota_table.specs.declared.quota.QuotaRow.{QuotaRow}
+use Rattle.std.proofs.Common.{◌≡◌, List, [], ◌∷◌, ◌++◌, length, ap, ◌∙◌, arith}
 use Rattle.db_state.specs.declared.view.Place.{Place}
 use Rattle.inode_ops.proofs.ViewLaws.{raise_fewer, can_make, view_of_one}
 use Rattle.inode_ops.proofs.tests.answer.Goals as goal
