@@ -1,10 +1,9 @@
 -- All that the core keeps, once a session has answered.
 use Rattle.std.proofs.Common.{◌≡◌, ◌≢◌, ℕ, ◌+◌, ◌*◌, ◌<◌, ◌≤◌, Bool, true, false, not, ◌&&◌, ◌||◌, ◌==◌, nat_lt, List, [], ◌∷◌, slice_get, slice_set, unwrap_or, Option, Some, None, arith, refl, sym, ap, subst, ◌∙◌, eqb-true, eq-eqb, inl}
-use Rattle.std.proofs.lemmas.Bool.{eqb-false, ne_eqb, and_parts}
+use Rattle.std.proofs.lemmas.Bool.{eqb-false}
 use Rattle.std.specs.Cmp.{nat_eq_equiv}
 use Rattle.std.specs.List.{list_any, sum_by}
 use Rattle.std.specs.FinMap as map
-use Rattle.hops_base.specs.Path.{most_path_names}
 use Rattle.hops_base.specs.declared.ids.SessionId.{SessionId}
 use Rattle.hops_base.specs.declared.ids.ClientNo.{ClientNo}
 use Rattle.hops_base.specs.declared.ids.Mode.{Mode}
@@ -34,12 +33,13 @@ use Rattle.db_state.specs.Stages.{is_over}
 use Rattle.db_state.specs.Core.{IsCore}
 use Rattle.db_state.specs.Steps.{seat_of, with_session, Completes, CanAnswer}
 use Rattle.db_state.specs.SessionParts.{asked_in, IsReading, IsAsFound, IsOpened}
-use Rattle.db_state.specs.BookParts.{IsSeated}
+use Rattle.db_state.specs.BookParts.{opens_after, opens_past, most_new_ids, IsSeat, IsSeated}
 use Rattle.db_state.proofs.LockPartLaws.{book_gave, plans_with}
 use Rattle.db_state.proofs.SessionMapLaws.{with_all}
-use Rattle.db_state.proofs.SeatLaws.{get-set_same, get-set_other, all-set, all-at, length-set, sum-set, none_after, none_at}
+use Rattle.db_state.proofs.SeatLaws.{get-set_same, get-set_other, all-set, all-at, length-set, sum-set, not_and, not_and_right, not_below, none_after, none_at}
 use Rattle.db_state.proofs.BookTellLaws.{opened_on, found_on, any-push}
 use Rattle.db_state.proofs.BookLaws.{book-push, was_opened}
+use Rattle.db_state.proofs.SeatTellLaws.{IsThere, last_there, past_none, there_with, told_on}
 use Rattle.db_state.proofs.StageLaws.{reading_on}
 use Rattle.db_state.proofs.ReadsHoldLaws.{leaves_others, holds_still}
 use Rattle.db_state.proofs.ReadsKeptLaws.{all_fixed}
@@ -48,13 +48,6 @@ use Rattle.db_state.proofs.GiveLaws.{bare_modes}
 
 both_true : (a b : Bool) → a ≡ true → b ≡ true → (a && b) ≡ true
 both_true a b p q = rw (p, q) refl
-
-not_and : (a b : Bool) → a ≡ false → (a && b) ≡ false
-not_and a b e = rw e refl
-
-not_and_right : (a b : Bool) → b ≡ false → (a && b) ≡ false
-not_and_right true b e = e
-not_and_right false b e = refl
 
 only_calls : (a b : Bool) → a ≡ false → (not a && b) ≡ false → b ≡ false
 only_calls true b is e = absurd (let bad = is in cc)
@@ -90,10 +83,10 @@ module _ (old : State) (s : SessionId) (doing : Session) (reads : Reads) (keys :
   runs = ap is_over can.stage
 
   less : seat.seat.answered < doing.number
-  less = seat.running runs
+  less = seat.low runs
 
   none : list_any (answers_after doing.client seat.seat.answered) old.stored.notes ≡ false
-  none = core.seats.answers doing.client seat.seat seat.there
+  none = (core.seats.told doing.client seat.seat seat.there).answers
 
   reading : IsReading old.stored.inodes old.stored.quotas (held old.stored.notes) s doing (Commit reads keys)
   reading = subst (IsReading old.stored.inodes old.stored.quotas (held old.stored.notes) s doing) can.stage (core.reads s doing can.there)
@@ -134,28 +127,42 @@ module _ (old : State) (s : SessionId) (doing : Session) (reads : Reads) (keys :
       let ids_one : t ≡ s = cc in
       eqb-false t.0 s.0 apart (ap (λ (x : SessionId). x.0) ids_one)
 
-  answers_after_all : (client : ClientNo) (x : Seat) → slice_get seats client.0 ≡ Some x → list_any (answers_after client x.answered) stored.notes ≡ false
-  answers_after_all client x e =
-      elim (client.0 == doing.client.0) as (λ b. (client.0 == doing.client.0) ≡ b → list_any (answers_after client x.answered) stored.notes ≡ false) [
+  -- who sat there sits there, and has answered
+  stays : (client : ClientNo) (t : SessionId) → IsThere old.sessions client t → IsThere (with_session old.sessions s ended) client t
+  stays client = there_with old.sessions s doing ended client can.there refl
+
+  told : IsSeat old.sessions old.stored.notes doing.client seat.seat
+  told = core.seats.told doing.client seat.seat seat.there
+
+  told_mine : IsSeat (with_session old.sessions s ended) stored.notes doing.client (record seat.seat { answered = doing.number })
+  told_mine = record {
+    opens = any-push (opens_after doing.client seat.seat.begun) old.stored.notes (Did s doing.client doing.number doing.call doing.reads reply) told.opens refl;
+    answers = any-push (answers_after doing.client doing.number) old.stored.notes (Did s doing.client doing.number doing.call doing.reads reply)
+        (none_after doing.client seat.seat.answered doing.number old.stored.notes (let l = less in omega arith) none)
+        (not_and_right (doing.client.0 == doing.client.0) (nat_lt doing.number doing.number) (not_below doing.number));
+    last = any-push (opens_past doing.client seat.seat.last) old.stored.notes (Did s doing.client doing.number doing.call doing.reads reply) told.last
+        (past_none doing.client seat.seat.last (Did s doing.client doing.number doing.call doing.reads reply) refl);
+    there = last_there old.sessions (with_session old.sessions s ended) doing.client (stays doing.client) seat.seat.last told.there;
+  }
+
+  told_all : (client : ClientNo) (x : Seat) → slice_get seats client.0 ≡ Some x → IsSeat (with_session old.sessions s ended) stored.notes client x
+  told_all client x e =
+      elim (client.0 == doing.client.0) as (λ b. (client.0 == doing.client.0) ≡ b → IsSeat (with_session old.sessions s ended) stored.notes client x) [
         | true ↦ λ is.
             let same : client.0 ≡ doing.client.0 = eqb-true client.0 doing.client.0 is in
             let there : Some x ≡ Some (record (seat_of old.seats doing.client) { answered = doing.number }) = sym e ∙ ap (slice_get seats) same ∙ new_seat in
             let is_new : x ≡ record (seat_of old.seats doing.client) { answered = doing.number } = cc in
-            let number : x.answered ≡ doing.number = ap (λ (y : Seat). y.answered) is_new in
-            subst (λ (n : ℕ). list_any (answers_after (record { 0 = n }) x.answered) stored.notes ≡ false) (sym same)
-            (subst (λ (n : ℕ). list_any (answers_after doing.client n) stored.notes ≡ false) (sym number)
-            (any-push (answers_after doing.client doing.number) old.stored.notes (Did s doing.client doing.number doing.call doing.reads reply)
-            (none_after doing.client seat.seat.answered doing.number old.stored.notes (let l = less in omega arith) none)
-            (not_and_right (doing.client.0 == doing.client.0) (nat_lt doing.number doing.number) (not_less doing.number))))
+            subst (λ (n : ℕ). IsSeat (with_session old.sessions s ended) stored.notes (record { 0 = n }) x) (sym same)
+            (subst (IsSeat (with_session old.sessions s ended) stored.notes doing.client) (sym (is_new ∙ ap (λ (y : Seat). record y { answered = doing.number }) seat_is)) told_mine)
         | false ↦ λ is.
             let differ : client.0 ≢ doing.client.0 = eqb-false client.0 doing.client.0 is in
             let was : slice_get old.seats client.0 ≡ Some x = sym (get-set_other old.seats doing.client.0 client.0 (record (seat_of old.seats doing.client) { answered = doing.number }) differ) ∙ e in
-            any-push (answers_after client x.answered) old.stored.notes (Did s doing.client doing.number doing.call doing.reads reply) (core.seats.answers client x was)
-            (not_and (doing.client.0 == client.0) (nat_lt x.answered doing.number) (nat_eq_equiv.symm doing.client.0 client.0 ∙ is))
+            told_on old.sessions (with_session old.sessions s ended) old.stored.notes (Did s doing.client doing.number doing.call doing.reads reply) client x refl
+            (not_and (doing.client.0 == client.0) (nat_lt x.answered doing.number) (nat_eq_equiv.symm doing.client.0 client.0 ∙ is)) (stays client) (core.seats.told client x was)
       ] refl
-    where
-      not_less : (n : ℕ) → nat_lt n n ≡ false
-      not_less n = Rattle.std.proofs.lemmas.Bool.false_from_ne_true (nat_lt n n) (λ is. let bad : n < n = Rattle.std.proofs.lemmas.Bool.ltb-true n n is in omega arith)
+
+  last_before : list_any (opens_past doing.client (Some s)) old.stored.notes ≡ false
+  last_before = subst (λ (last : Option SessionId). list_any (opens_past doing.client last) old.stored.notes ≡ false) seat.last told.last
 
   others_seated : (t : SessionId) (other : Session) → (t.0 == s.0) ≡ false → map.get old.sessions t.0 ≡ Some other → IsSeated seats t other
   others_seated t other apart e =
@@ -165,13 +172,13 @@ module _ (old : State) (s : SessionId) (doing : Session) (reads : Reads) (keys :
         there = get-set_other old.seats doing.client.0 other.client.0 (record (seat_of old.seats doing.client) { answered = doing.number }) (other_client t other apart is) ∙ is.there;
         last = is.last;
         number = is.number;
-        running = is.running;
+        low = is.low;
       }
 
-  ids_left : next_after old.stored.next writes ≤ 2 + most_path_names * sum_by (λ (x : Seat). x.answered) seats
+  ids_left : next_after old.stored.next writes ≤ 2 + most_new_ids * sum_by (λ (x : Seat). x.answered) seats
   ids_left =
-      let before : old.stored.next ≤ 2 + most_path_names * sum_by (λ (x : Seat). x.answered) old.seats = core.ids in
-      let few : next_after old.stored.next writes ≤ old.stored.next + most_path_names = can.few in
+      let before : old.stored.next ≤ 2 + most_new_ids * sum_by (λ (x : Seat). x.answered) old.seats = core.ids in
+      let few : next_after old.stored.next writes ≤ old.stored.next + most_new_ids = can.few in
       let more : sum_by (λ (x : Seat). x.answered) old.seats + 1 ≤ sum_by (λ (x : Seat). x.answered) seats =
       sum-set (λ (x : Seat). x.answered) old.seats doing.client.0 seat.seat (record (seat_of old.seats doing.client) { answered = doing.number }) seat.there less in
       omega arith
@@ -179,7 +186,7 @@ module _ (old : State) (s : SessionId) (doing : Session) (reads : Reads) (keys :
   number_fits : (doing.number ≤ (seat_of old.seats doing.client).begun) × ((seat_of old.seats doing.client).begun ≤ most_calls)
   number_fits =
       let fits = all-at (λ (x : Seat). (x.answered ≤ x.begun) × (x.begun ≤ most_calls)) old.seats doing.client.0 seat.seat core.seats.numbers seat.there in
-      let begun : (seat_of old.seats doing.client).begun ≡ doing.number = ap (λ (x : Seat). x.begun) seat_is ∙ seat.number in
+      let begun : (seat_of old.seats doing.client).begun ≡ doing.number = ap (λ (x : Seat). x.begun) seat_is ∙ seat.number runs in
       (subst (λ (n : ℕ). doing.number ≤ n) (sym begun) (le_self doing.number), subst (λ (x : Seat). x.begun ≤ most_calls) (sym seat_is) fits.1)
     where
       le_self : (n : ℕ) → n ≤ n
@@ -200,14 +207,14 @@ module _ (old : State) (s : SessionId) (doing : Session) (reads : Reads) (keys :
     seats = record {
       each = length-set old.seats doing.client.0 (record (seat_of old.seats doing.client) { answered = doing.number }) ∙ core.seats.each;
       numbers = all-set (λ (x : Seat). (x.answered ≤ x.begun) × (x.begun ≤ most_calls)) old.seats doing.client.0 (record (seat_of old.seats doing.client) { answered = doing.number }) core.seats.numbers number_fits;
-      answers = answers_after_all;
+      told = told_all;
       seated = with_all (IsSeated seats) old.sessions s ended
           (record {
             seat = record (seat_of old.seats doing.client) { answered = doing.number };
             there = new_seat;
             last = ap (λ (x : Seat). x.last) seat_is ∙ seat.last;
-            number = ap (λ (x : Seat). x.begun) seat_is ∙ seat.number;
-            running = λ r. absurd (let bad = r in cc);
+            number = λ r. absurd (let bad = r in cc);
+            low = λ r. absurd (let bad = r in cc);
           })
           others_seated;
     };
@@ -225,6 +232,8 @@ module _ (old : State) (s : SessionId) (doing : Session) (reads : Reads) (keys :
       );
       sound = tt;
       licensed = tt;
+      never_falls = tt;
+      last = last_before;
       in_order = none_after doing.client seat.seat.answered doing.number old.stored.notes (let l = less in omega arith) none;
       held = can.held;
     }) core.book;

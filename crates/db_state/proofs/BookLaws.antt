@@ -10,7 +10,7 @@ use Rattle.commit_log.specs.Kept.{InOrderAt, AnswersHeldAt}
 use Rattle.commit_log.proofs.AlongLaws.{Each-push}
 use Rattle.commit_log.proofs.OrderLaws.{orderly-push}
 use Rattle.db_state.specs.Settings.{Settings}
-use Rattle.db_state.specs.BookParts.{terms_in, IsBook}
+use Rattle.db_state.specs.BookParts.{terms_in, NeverFallsAt, IsLastAt, IsBook}
 use Rattle.db_state.specs.declared.session.Session.{Session}
 use Rattle.db_state.specs.SessionParts.{IsOpened}
 
@@ -24,6 +24,8 @@ pub record Fits (settings : Settings) (notes : List Note) (note : Note) : Type 0
   pub sound : SoundAt notes note
   pub licensed : LicensedAt notes note
   pub in_order : InOrderAt notes note
+  pub never_falls : NeverFallsAt notes note
+  pub last : IsLastAt notes note
   pub held : AnswersHeldAt settings.users notes note
 
 pub book-push : (settings : Settings) (notes : List Note) (note : Note) → Fits settings notes note → IsBook settings notes → IsBook settings (notes ++ note ∷ [])
@@ -32,6 +34,8 @@ book-push settings notes note fits book = record {
   sound = Each-push SoundAt notes note book.sound fits.sound;
   licensed = Each-push LicensedAt notes note book.licensed fits.licensed;
   in_order = Each-push InOrderAt notes note book.in_order fits.in_order;
+  never_falls = Each-push NeverFallsAt notes note book.never_falls fits.never_falls;
+  last = Each-push IsLastAt notes note book.last fits.last;
   held = Each-push (AnswersHeldAt settings.users) notes note book.held fits.held;
 }
 

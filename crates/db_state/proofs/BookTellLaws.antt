@@ -2,11 +2,9 @@
 use Rattle.std.proofs.Common.{◌≡◌, ℕ, ◌+◌, ◌<◌, ◌≤◌, suc, Bool, true, false, not, ◌||◌, eqb, cond, nat_lt, List, [], ◌∷◌, ◌++◌, length, drop, Some, None, arith, refl, sym, ap, subst, ◌∙◌, eq-eqb}
 use Rattle.std.proofs.lemmas.Bool.{ltb-true, lt-ltb, ne_eqb}
 use Rattle.std.proofs.Math.Nat.{add-zero}
-use Rattle.std.specs.FinMap as map
 use Rattle.std.proofs.lemmas.List.{drop-append-le, length-append}
 use Rattle.std.proofs.lemmas.List.Folds.{list_any-append, prefix_len-append}
-use Rattle.std.specs.List.{list_any, position, position_or_len, prefix_len, AllByRecursion}
-use Rattle.hops_base.specs.declared.key.Key.{Key}
+use Rattle.std.specs.List.{list_any, position, position_or_len, prefix_len}
 use Rattle.hops_base.specs.declared.ids.SessionId.{SessionId}
 use Rattle.commit_log.specs.declared.note.Note.{Note}
 use Rattle.commit_log.specs.Parts.{opens_session}
@@ -15,9 +13,8 @@ use Rattle.commit_log.specs.Licensed.{is_change_beside}
 use Rattle.commit_log.proofs.PartLaws.{opening_of-kept}
 use Rattle.db_state.specs.declared.session.Session.{Session}
 use Rattle.db_state.specs.Stored.{Inodes}
-use Rattle.db_state.specs.PlaceOf.{IsFound}
-use Rattle.db_state.specs.Stages.{is_over, rows_in, missing_in}
-use Rattle.db_state.specs.SessionParts.{IsOpened, IsAsFound}
+use Rattle.db_state.specs.Stages.{is_over}
+use Rattle.db_state.specs.SessionParts.{IsOpened, IsStillFound, IsAsFound}
 
 -- one note more has one place more
 pub length-push : (notes : List Note) (note : Note) → length (notes ++ note ∷ []) ≡ length notes + 1
@@ -96,5 +93,4 @@ found_on old new notes note s session low same is none =
     let split : drop session.since (notes ++ note ∷ []) ≡ drop session.since notes ++ note ∷ [] = drop-append-le session.since notes (note ∷ []) low in
     let quiet : list_any (is_change_beside s) (drop session.since notes ++ note ∷ []) ≡ false = subst (λ (ns : List Note). list_any (is_change_beside s) ns ≡ false) split none in
     let still : new ≡ old = same (any-last (is_change_beside s) (drop session.since notes) note quiet) in
-    subst (λ (inodes : Inodes). AllByRecursion (IsFound inodes) (rows_in session.stage) × AllByRecursion (λ (at : Key). map.get inodes at ≡ None) (missing_in session.stage)) (sym still)
-    (is (any-front (is_change_beside s) (drop session.since notes) note quiet))
+    subst (λ (inodes : Inodes). IsStillFound inodes session.stage) (sym still) (is (any-front (is_change_beside s) (drop session.since notes) note quiet))

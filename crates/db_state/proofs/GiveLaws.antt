@@ -12,7 +12,6 @@ use Rattle.commit_log.specs.declared.note.Note.{Note}
 use Rattle.commit_log.specs.declared.note.Note.TheVariants.{Gave}
 use Rattle.commit_log.specs.Parts.{Taking, passes}
 use Rattle.commit_log.specs.Locks.{held}
-use Rattle.commit_log.specs.Kept.{answers_after}
 use Rattle.commit_log.proofs.HeldLaws.{held-push}
 use Rattle.db_state.specs.declared.session.Session.{Session}
 use Rattle.db_state.specs.declared.session.Stage.{Stage}
@@ -31,8 +30,9 @@ use Rattle.db_state.specs.BookParts.{IsSeated}
 use Rattle.db_state.proofs.ConsistentLaws.{noted_consistent}
 use Rattle.db_state.proofs.LockPartLaws.{book_gave, plans_with}
 use Rattle.db_state.proofs.SessionMapLaws.{with_all}
-use Rattle.db_state.proofs.BookTellLaws.{opened_on, found_on, any-push, length-push}
+use Rattle.db_state.proofs.BookTellLaws.{opened_on, found_on, length-push}
 use Rattle.db_state.proofs.BookLaws.{book-push, was_opened}
+use Rattle.db_state.proofs.SeatTellLaws.{there_with, told_still, told_on}
 use Rattle.db_state.proofs.StageLaws.{reading_on}
 use Rattle.db_state.proofs.ReadsHoldLaws.{leaves_others}
 use Rattle.db_state.proofs.ReadsBesideLaws.{stands_beside}
@@ -94,7 +94,7 @@ module _ (old : State) (s : SessionId) (doing : Session) (stage : Stage) (locks 
   seated_anew : (long : ℕ) → IsSeated old.seats s (anew long)
   seated_anew long =
       let seat = core.seats.seated s doing runs.there in
-      record { seat = seat.seat; there = seat.there; last = seat.last; number = seat.number; running = λ r. seat.running runs.running }
+      record { seat = seat.seat; there = seat.there; last = seat.last; number = λ r. seat.number runs.running; low = λ r. seat.low runs.running }
 
   -- with no note, where it held nothing
   pub given_without : keys_in doing.stage ≡ [] → IsCore (given_state old.stored)
@@ -113,7 +113,7 @@ module _ (old : State) (s : SessionId) (doing : Session) (stage : Stage) (locks 
         seats = record {
           each = core.seats.each;
           numbers = core.seats.numbers;
-          answers = core.seats.answers;
+          told = λ client seat e. told_still old.sessions (with_session old.sessions s (anew (length old.stored.notes))) old.stored.notes client seat (there_with old.sessions s doing (anew (length old.stored.notes)) client runs.there refl) (core.seats.told client seat e);
           seated = with_all (IsSeated old.seats) old.sessions s (anew (length old.stored.notes)) (seated_anew (length old.stored.notes)) (λ t other apart e. core.seats.seated t other e);
         };
         ids = core.ids;
@@ -148,7 +148,7 @@ module _ (old : State) (s : SessionId) (doing : Session) (stage : Stage) (locks 
         seats = record {
           each = core.seats.each;
           numbers = core.seats.numbers;
-          answers = λ client seat e. any-push (answers_after client seat.answered) old.stored.notes (Gave s) (core.seats.answers client seat e) refl;
+          told = λ client seat e. told_on old.sessions (with_session old.sessions s (anew (length notes))) old.stored.notes (Gave s) client seat refl refl (there_with old.sessions s doing (anew (length notes)) client runs.there refl) (core.seats.told client seat e);
           seated = with_all (IsSeated old.seats) old.sessions s (anew (length notes)) (seated_anew (length notes)) (λ t other apart e. core.seats.seated t other e);
         };
         ids = core.ids;
@@ -161,6 +161,8 @@ module _ (old : State) (s : SessionId) (doing : Session) (stage : Stage) (locks 
           sound = tt;
           licensed = tt;
           in_order = tt;
+          never_falls = tt;
+          last = tt;
           held = tt;
         }) core.book;
       }

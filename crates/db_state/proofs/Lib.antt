@@ -4,11 +4,16 @@ pub mod BookTellLaws
 pub mod ChainLaws
 pub mod ChangeLaws
 pub mod ConsistentLaws
+pub mod CoreSampleLemmas
 pub mod CountLaws
+pub mod CountedLaws
+pub mod DbLaws
+pub mod DiffersLaws
 pub mod EffectLaws
 pub mod FlagLaws
 pub mod GiveLaws
 pub mod GrowthLaws
+pub mod HoldingLemmas
 pub mod IdLemmas
 pub mod LimitLaws
 pub mod ListLaws
@@ -37,7 +42,9 @@ pub mod ReadsViewLaws
 pub mod ReadsWriteLaws
 pub mod RemoveLaws
 pub mod SeatLaws
+pub mod SeatTellLaws
 pub mod SessionMapLaws
+pub mod SessionTableLemmas
 pub mod StageLaws
 pub mod StandLaws
 pub mod TakeLaws

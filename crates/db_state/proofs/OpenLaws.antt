@@ -1,9 +1,9 @@
--- All that the core keeps, once a session is opened, and before anything happened.
-use Rattle.std.proofs.Common.{◌≡◌, ◌≢◌, ◌⊎◌, ℕ, ◌+◌, ◌*◌, ◌<◌, ◌≤◌, suc, Bool, true, false, ◌||◌, ◌==◌, cond, List, [], ◌∷◌, ◌++◌, length, take, slice_get, slice_set, Option, Some, None, IsSome, IfSome, drop, arith, refl, sym, ap, subst, ◌∙◌, eqb-true, eq-eqb, inl, inr}
+-- All that the core keeps, once a session is opened, and once a client's next call is counted.
+use Rattle.std.proofs.Common.{◌≡◌, ◌≢◌, ◌⊎◌, ℕ, ◌+◌, ◌*◌, ◌<◌, ◌≤◌, Bool, true, false, ◌||◌, ◌==◌, cond, List, [], ◌∷◌, ◌++◌, length, take, slice_get, slice_set, Option, Some, None, IsSome, IfSome, IsSomeAnd, nat_lt, drop, arith, refl, sym, ap, subst, ◌∙◌, eqb-true, eq-eqb, inl, inr}
 use Rattle.std.proofs.lemmas.Bool.{eqb-false, false_from_ne_true, and_parts}
 use Rattle.std.proofs.lemmas.List.{take-append-drop}
+use Rattle.std.specs.Cmp.{nat_eq_equiv}
 use Rattle.std.proofs.lemmas.Option.{slice_get-get_or, unwrap_or-slice_get}
-use Rattle.hops_base.specs.Path.{most_path_names}
 use Rattle.std.specs.List.{list_any}
 use Rattle.std.specs.FinMap as map
 use Rattle.hops_base.specs.Ids.{session}
@@ -33,27 +33,20 @@ use Rattle.db_state.specs.declared.session.Stage.TheVariants.{Resolve, Lock, Rea
 use Rattle.db_state.specs.State.{Sessions, State, empty_seat}
 use Rattle.db_state.specs.Stages.{is_over, keys_in}
 use Rattle.db_state.specs.Core.{IsCore}
-use Rattle.db_state.specs.Steps.{seat_of, new_session, next_session, without_last, opened_by, CanOpen}
+use Rattle.db_state.specs.Steps.{seat_of, new_session, next_session, with_session, without_last, opened_by, begun_by, CanOpen}
 use Rattle.db_state.specs.LockParts.{AreOfSessions, keys_of_session}
 use Rattle.db_state.specs.SessionParts.{IsReading, IsAsFound, IsOpened}
-use Rattle.db_state.specs.BookParts.{IsSeated}
+use Rattle.db_state.specs.BookParts.{opens_after, opens_past, most_new_ids, IsSeat, IsSeated}
 use Rattle.db_state.proofs.ConsistentLaws.{noted_consistent}
 use Rattle.db_state.proofs.LockPartLaws.{book_left, plans_with, plans_without}
-use Rattle.db_state.proofs.SessionMapLaws.{with_all, get-without}
-use Rattle.db_state.proofs.SeatLaws.{get-set_same, get-set_other, all-set, all-at, length-set, sum-same}
+use Rattle.db_state.proofs.SessionMapLaws.{with_all, get-with, get-without}
+use Rattle.db_state.proofs.SeatLaws.{get-set_same, get-set_other, all-set, all-at, length-set, sum-same, not_and, not_and_right, not_below, none_opened_after}
+use Rattle.db_state.proofs.SeatTellLaws.{any_at, IsThere, last_there, none_past_next}
 use Rattle.db_state.proofs.BookTellLaws.{opened_on, found_on, any-push, position-new, length-push}
 use Rattle.db_state.proofs.BookLaws.{book-push}
 use Rattle.db_state.proofs.GiveLaws.{start_is_bare}
 
 -- ---- nothing ends a session that isn't opened yet
-
-any_at : (test : Note → Bool) (notes : List Note) → list_any test notes ≡ true → (i : ℕ) × (note : Note) × (slice_get notes i ≡ Some note) × (test note ≡ true)
-any_at test [] e = let bad = e in cc
-any_at test (n ∷ notes) e =
-    elim (test n) as (λ b. test n ≡ b → (b || list_any test notes) ≡ true → (i : ℕ) × (note : Note) × (slice_get (n ∷ notes) i ≡ Some note) × (test note ≡ true)) [
-      | true ↦ λ is f. (0, n, refl, is)
-      | false ↦ λ is f. let rest = any_at test notes f in (suc rest.0, rest.1, rest.2, rest.3)
-    ] refl e
 
 one_session : (s t : SessionId) → (t.0 == s.0) ≡ true → Some t ≡ Some s
 one_session s t is = ap (λ (n : ℕ). Some (session n)) (eqb-true t.0 s.0 is)
@@ -153,7 +146,7 @@ module _ (old : State) (client : ClientNo) (number : ℕ) (call : Call) (node : 
   none = opening_of-none old.stored.notes s unopened
 
   -- there is no session of the new number
-  no_session : (o : Option Session) → map.get old.sessions s.0 ≡ o → o ≡ None
+  pub no_session : (o : Option Session) → map.get old.sessions s.0 ≡ o → o ≡ None
   no_session None e = refl
   no_session (Some doing) e = let bad : None ≡ Some _ = sym none ∙ (core.opened s doing e).opening in absurd (let worse = bad in cc)
 
@@ -182,18 +175,67 @@ module _ (old : State) (client : ClientNo) (number : ℕ) (call : Call) (node : 
         valid = can.valid;
       }
 
-  answers_all : (c : ClientNo) (x : Seat) → slice_get seats c.0 ≡ Some x → list_any (answers_after c x.answered) notes ≡ false
-  answers_all c x e =
-      elim (c.0 == client.0) as (λ b. (c.0 == client.0) ≡ b → list_any (answers_after c x.answered) notes ≡ false) [
+  was_told : IsSeat old.sessions old.stored.notes client was
+  was_told = core.seats.told client was there
+
+  rises : was.begun ≤ number
+  rises = let next : number ≡ was.begun + 1 = can.next in omega arith
+
+  now_told : IsSeat (with_session left s fresh) notes client now
+  now_told = record {
+    opens = any-push (opens_after client number) old.stored.notes (Open (next_session old) client number node) (none_opened_after client was.begun number old.stored.notes rises was_told.opens)
+        (not_and_right (client.0 == client.0) (nat_lt number number) (not_below number));
+    answers = any-push (answers_after client was.answered) old.stored.notes (Open (next_session old) client number node) was_told.answers refl;
+    last = any-push (opens_past client (Some s)) old.stored.notes (Open (next_session old) client number node) (none_past_next old.stored.notes client core.book.orderly.numbered)
+        (not_and_right (client.0 == client.0) (nat_lt s.0 s.0) (not_below s.0));
+    there = subst (λ (o : Option Session). IsSomeAnd o (λ doing. doing.client ≡ client))
+        (sym (get-with left s s fresh ∙ ap (λ (b : Bool). cond b (Some fresh) (map.get left s.0)) (eq-eqb s.0 s.0 refl))) refl;
+  }
+
+  -- the last session of another client stays
+  stays : (c : ClientNo) → (c.0 == client.0) ≡ false → (t : SessionId) → IsThere old.sessions c t → IsThere (with_session left s fresh) c t
+  stays c apart t is = subst (λ (o : Option Session). IsSomeAnd o (λ doing. doing.client ≡ c)) (sym (get-with left s t fresh)) (go (t.0 == s.0) refl)
+    where
+      in_left : (last : Option SessionId) → IfSome last (IsThere old.sessions client) → IsThere (without_last old.sessions last) c t
+      in_left None sits = is
+      in_left (Some l) sits = subst (λ (o : Option Session). IsSomeAnd o (λ doing. doing.client ≡ c)) (sym (get-without old.sessions l t)) (by_test (t.0 == l.0) refl)
+        where
+          clash : (o : Option Session) → IsSomeAnd o (λ doing. doing.client ≡ client) → IsSomeAnd o (λ doing. doing.client ≡ c) → c.0 ≡ client.0
+          clash None one other = absurd one
+          clash (Some doing) one other = ap (λ (x : ClientNo). x.0) (sym other ∙ one)
+
+          by_test : (b : Bool) → (t.0 == l.0) ≡ b → IsSomeAnd (cond b None (map.get old.sessions t.0)) (λ doing. doing.client ≡ c)
+          by_test true e = absurd (eqb-false c.0 client.0 apart (clash (map.get old.sessions l.0) sits
+              (subst (λ (n : ℕ). IsSomeAnd (map.get old.sessions n) (λ doing. doing.client ≡ c)) (eqb-true t.0 l.0 e) is)))
+          by_test false e = is
+
+      go : (b : Bool) → (t.0 == s.0) ≡ b → IsSomeAnd (cond b (Some fresh) (map.get left t.0)) (λ doing. doing.client ≡ c)
+      go true e = absurd (subst (λ (o : Option Session). IsSomeAnd o (λ doing. doing.client ≡ c)) (ap (λ (n : ℕ). map.get old.sessions n) (eqb-true t.0 s.0 e) ∙ no_session (map.get old.sessions s.0) refl) is)
+      go false e = in_left (seat_of old.seats client).last was_told.there
+
+  -- the note is of another client
+  not_past_other : (c : ClientNo) → (client.0 == c.0) ≡ false → (last : Option SessionId) → opens_past c last (Open (next_session old) client number node) ≡ false
+  not_past_other c apart None = apart
+  not_past_other c apart (Some l) = not_and (client.0 == c.0) (nat_lt l.0 s.0) apart
+
+  told_all : (c : ClientNo) (x : Seat) → slice_get seats c.0 ≡ Some x → IsSeat (with_session left s fresh) notes c x
+  told_all c x e =
+      elim (c.0 == client.0) as (λ b. (c.0 == client.0) ≡ b → IsSeat (with_session left s fresh) notes c x) [
         | true ↦ λ is.
             let same : c.0 ≡ client.0 = eqb-true c.0 client.0 is in
             let one : Some x ≡ Some now = sym e ∙ ap (slice_get seats) same ∙ now_there in
             let is_now : x ≡ now = cc in
-            any-push (answers_after c x.answered) old.stored.notes (Open (next_session old) client number node)
-            (subst (λ (n : ℕ). list_any (answers_after c n) old.stored.notes ≡ false) (sym (ap (λ (y : Seat). y.answered) is_now)) (core.seats.answers c was (ap (slice_get old.seats) same ∙ there))) refl
+            subst (λ (n : ℕ). IsSeat (with_session left s fresh) notes (record { 0 = n }) x) (sym same) (subst (IsSeat (with_session left s fresh) notes client) (sym is_now) now_told)
         | false ↦ λ is.
             let before : slice_get old.seats c.0 ≡ Some x = sym (get-set_other old.seats client.0 c.0 now (eqb-false c.0 client.0 is)) ∙ e in
-            any-push (answers_after c x.answered) old.stored.notes (Open (next_session old) client number node) (core.seats.answers c x before) refl
+            let tells = core.seats.told c x before in
+            let other : (client.0 == c.0) ≡ false = nat_eq_equiv.symm client.0 c.0 ∙ is in
+            record {
+              opens = any-push (opens_after c x.begun) old.stored.notes (Open (next_session old) client number node) tells.opens (not_and (client.0 == c.0) (nat_lt x.begun number) other);
+              answers = any-push (answers_after c x.answered) old.stored.notes (Open (next_session old) client number node) tells.answers refl;
+              last = any-push (opens_past c x.last) old.stored.notes (Open (next_session old) client number node) tells.last (not_past_other c other x.last);
+              there = last_there old.sessions (with_session left s fresh) c (stays c is) x.last tells.there;
+            }
       ] refl
 
   others_seated : (t : SessionId) (other : Session) → map.get left t.0 ≡ Some other → IsSeated seats t other
@@ -204,7 +246,7 @@ module _ (old : State) (client : ClientNo) (number : ℕ) (call : Call) (node : 
       let one : Some is.seat ≡ Some was = sym is.there ∙ ap (slice_get old.seats) same ∙ there in
       let seats_one : is.seat ≡ was = cc in
       both.1 (sym (ap (λ (x : Seat). x.last) seats_one) ∙ is.last) in
-      record { seat = is.seat; there = get-set_other old.seats client.0 other.client.0 now apart ∙ is.there; last = is.last; number = is.number; running = is.running }
+      record { seat = is.seat; there = get-set_other old.seats client.0 other.client.0 now apart ∙ is.there; last = is.last; number = is.number; low = is.low }
 
   numbers_fit : (was.answered ≤ number) × (number ≤ most_calls)
   numbers_fit =
@@ -212,6 +254,13 @@ module _ (old : State) (client : ClientNo) (number : ℕ) (call : Call) (node : 
       let a : was.answered ≤ was.begun = fits.0 in
       let b : number ≡ was.begun + 1 = can.next in
       ((let less : was.answered ≤ number = omega arith in less), can.few)
+
+  unanswered : was.answered < number
+  unanswered =
+      let fits = all-at (λ (x : Seat). (x.answered ≤ x.begun) × (x.begun ≤ most_calls)) old.seats client.0 was core.seats.numbers there in
+      let a : was.answered ≤ was.begun = fits.0 in
+      let b : number ≡ was.begun + 1 = can.next in
+      omega arith
 
   pub opened_at : IsCore (opened_by old client number call node)
   opened_at = record {
@@ -231,19 +280,12 @@ module _ (old : State) (client : ClientNo) (number : ℕ) (call : Call) (node : 
     seats = record {
       each = length-set old.seats client.0 now ∙ core.seats.each;
       numbers = all-set (λ (x : Seat). (x.answered ≤ x.begun) × (x.begun ≤ most_calls)) old.seats client.0 now core.seats.numbers numbers_fit;
-      answers = answers_all;
+      told = told_all;
       seated = with_all (IsSeated seats) left s fresh
-          (record {
-            seat = now;
-            there = now_there;
-            last = refl;
-            number = refl;
-            running = λ r. let fits = all-at (λ (x : Seat). (x.answered ≤ x.begun) × (x.begun ≤ most_calls)) old.seats client.0 was core.seats.numbers there in
-                let a : was.answered ≤ was.begun = fits.0 in let b : number ≡ was.begun + 1 = can.next in (let less : was.answered < number = omega arith in less);
-          })
+          (record { seat = now; there = now_there; last = refl; number = λ r. refl; low = λ r. unanswered })
           (λ t other apart e. others_seated t other e);
     };
-    ids = subst (λ (n : ℕ). old.stored.next ≤ 2 + most_path_names * n) (sym (sum-same (λ (x : Seat). x.answered) old.seats client.0 was now there refl)) core.ids;
+    ids = subst (λ (n : ℕ). old.stored.next ≤ 2 + most_new_ids * n) (sym (sum-same (λ (x : Seat). x.answered) old.seats client.0 was now there refl)) core.ids;
     book = book-push old.stored.settings old.stored.notes (Open (next_session old) client number node) (record {
       numbered = (refl, tt);
       allowed = ((can.client_there, (let b : number ≡ was.begun + 1 = can.next in let low : 1 ≤ number = omega arith in low), can.few), can.node_there);
@@ -253,9 +295,81 @@ module _ (old : State) (client : ClientNo) (number : ℕ) (call : Call) (node : 
       sound = tt;
       licensed = tt;
       in_order = tt;
+      never_falls = none_opened_after client was.begun number old.stored.notes rises was_told.opens;
+      last = tt;
       held = tt;
     }) core.book;
   }
+
+  -- ---- the call is counted, and no session opened for it
+
+  abbrev counted : Seat
+  counted = record (seat_of old.seats client) { begun = number }
+
+  abbrev counted_seats : List Seat
+  counted_seats = slice_set old.seats client.0 (record (seat_of old.seats client) { begun = number })
+
+  counted_there : slice_get counted_seats client.0 ≡ Some counted
+  counted_there = get-set_same old.seats client.0 was counted there
+
+  counted_told : (c : ClientNo) (x : Seat) → slice_get counted_seats c.0 ≡ Some x → IsSeat old.sessions old.stored.notes c x
+  counted_told c x e =
+      elim (c.0 == client.0) as (λ b. (c.0 == client.0) ≡ b → IsSeat old.sessions old.stored.notes c x) [
+        | true ↦ λ is.
+            let same : c.0 ≡ client.0 = eqb-true c.0 client.0 is in
+            let one : Some x ≡ Some counted = sym e ∙ ap (slice_get counted_seats) same ∙ counted_there in
+            let is_counted : x ≡ counted = cc in
+            subst (λ (n : ℕ). IsSeat old.sessions old.stored.notes (record { 0 = n }) x) (sym same) (subst (IsSeat old.sessions old.stored.notes client) (sym is_counted)
+            (record { opens = none_opened_after client was.begun number old.stored.notes rises was_told.opens; answers = was_told.answers; last = was_told.last; there = was_told.there }))
+        | false ↦ λ is. core.seats.told c x (sym (get-set_other old.seats client.0 c.0 counted (eqb-false c.0 client.0 is)) ∙ e)
+      ] refl
+
+  -- the client's last session is over
+  over : (t : SessionId) (other : Session) → map.get old.sessions t.0 ≡ Some other → was.last ≡ Some t → is_over other.stage ≡ true
+  over t other e last = subst (λ (o : Option Session). IfSome o (λ doing. is_over doing.stage ≡ true)) e (subst (λ (l : Option SessionId). IfSome l (λ x. IfSome (map.get old.sessions x.0) (λ doing. is_over doing.stage ≡ true))) last can.idle)
+
+  counted_seated : (t : SessionId) (other : Session) → map.get old.sessions t.0 ≡ Some other → IsSeated counted_seats t other
+  counted_seated t other e =
+      let is = core.seats.seated t other e in
+      elim (other.client.0 == client.0) as (λ b. (other.client.0 == client.0) ≡ b → IsSeated counted_seats t other) [
+        | true ↦ λ same.
+            let at : other.client.0 ≡ client.0 = eqb-true other.client.0 client.0 same in
+            let one : Some is.seat ≡ Some was = sym is.there ∙ ap (slice_get old.seats) at ∙ there in
+            let seats_one : is.seat ≡ was = cc in
+            let last : was.last ≡ Some t = sym (ap (λ (x : Seat). x.last) seats_one) ∙ is.last in
+            let ended : is_over other.stage ≡ true = over t other e last in
+            record {
+              seat = counted;
+              there = ap (slice_get counted_seats) at ∙ counted_there;
+              last = last;
+              number = λ r. absurd (let bad = sym ended ∙ r in cc);
+              low = λ r. absurd (let bad = sym ended ∙ r in cc);
+            }
+        | false ↦ λ apart.
+            record { seat = is.seat; there = get-set_other old.seats client.0 other.client.0 counted (eqb-false other.client.0 client.0 apart) ∙ is.there; last = is.last; number = is.number; low = is.low }
+      ] refl
+
+  pub begun_at : IsCore (begun_by old client number)
+  begun_at = record {
+    stored = core.stored;
+    locks = core.locks;
+    plans = core.plans;
+    reads = core.reads;
+    found = core.found;
+    opened = core.opened;
+    seats = record {
+      each = length-set old.seats client.0 counted ∙ core.seats.each;
+      numbers = all-set (λ (x : Seat). (x.answered ≤ x.begun) × (x.begun ≤ most_calls)) old.seats client.0 counted core.seats.numbers numbers_fit;
+      told = counted_told;
+      seated = counted_seated;
+    };
+    ids = subst (λ (n : ℕ). old.stored.next ≤ 2 + most_new_ids * n) (sym (sum-same (λ (x : Seat). x.answered) old.seats client.0 was counted there refl)) core.ids;
+    book = core.book;
+  }
+
+-- all that the core keeps, once a client's next call is counted
+pub begun_core : (old : State) (client : ClientNo) (number : ℕ) (call : Call) (node : NodeNo) → IsCore old → CanOpen old client number call node → IsCore (begun_by old client number)
+begun_core old client number call node core can = begun_at old client number call node core can
 
 -- all that the core keeps, once a session is opened
 pub opened_core : (old : State) (client : ClientNo) (number : ℕ) (call : Call) (node : NodeNo) → IsCore old → CanOpen old client number call node → IsCore (opened_by old client number call node)

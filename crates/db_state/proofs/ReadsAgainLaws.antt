@@ -89,7 +89,7 @@ found_pairs inodes locked (x ∷ xs) (y ∷ ys) all = (record { key = all.0.key;
 
 -- a place that is read again is the same to a plan
 pub place_same : (inodes : Inodes) (locked : List (Key × Mode)) (own : Option OpId) (old new : Place) → IsPlaceRead inodes locked own old new → SamePlace old new
-place_same inodes locked own old new is = record { path = is.path; gone = is.gone; rows = found_pairs inodes locked old.found.items new.found.items is.rows }
+place_same inodes locked own old new is = record { path = is.path; same_missing = is.same_missing; rows = found_pairs inodes locked old.found.items new.found.items is.rows }
 
 module _ (inodes : Inodes) (locked : List (Key × Mode)) where
   ends_again : (olds news : List (Key × Inode)) → AllPairs (IsReadAgain inodes locked) olds news → EndsLocked locked olds → EndsLocked locked news
@@ -157,7 +157,7 @@ module _ (inodes : Inodes) (locked : List (Key × Mode)) where
   pub place_stands : (own : Option OpId) (old new : Place) → map.get inodes root_key ≡ Some root_row → IsChain locked own old → IsPlaceRead inodes locked own old new
       → IsChain locked own new × ChainStands inodes locked (length new.found.items - 1) new
   place_stands own old new rooted chain is =
-      let spells = spells_again old.path old.found.items new.found.items old.missing new.missing is.rows is.gone chain.spells in
+      let spells = spells_again old.path old.found.items new.found.items old.missing new.missing is.rows is.same_missing chain.spells in
       let ends = ends_again old.found.items new.found.items is.rows chain.ends in
       let held = held_again old.found.items new.found.items is.rows in (
         record {
@@ -179,7 +179,7 @@ module _ (inodes : Inodes) (locked : List (Key × Mode)) where
             part = subst (λ (items : List (Key × Inode)). AllByRecursion (IsThere inodes locked) (drop (length new.found.items - 1) items)) (sym e)
                 (subst (λ (n : ℕ). AllByRecursion (IsThere inodes locked) (drop n (row ∷ rows))) (sym mark) (last_stands row rows ends held));
             held = subst (AllByRecursion (IsHeldRow inodes locked)) (sym e) held;
-            missing = subst (IsMissing inodes) (sym is.gone) is.missing;
+            missing = subst (IsMissing inodes) (sym is.same_missing) is.missing;
           }
 
   pub places_stand : (own : Option OpId) (olds news : List Place) → map.get inodes root_key ≡ Some root_row → AllByRecursion (IsChain locked own) olds → AllPairs (IsPlaceRead inodes locked own) olds news

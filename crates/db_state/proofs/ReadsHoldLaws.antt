@@ -21,7 +21,7 @@ use Rattle.commit_log.proofs.HeldLaws.{held-push}
 use Rattle.commit_log.proofs.LockLaws.{held-shared}
 use Rattle.db_state.specs.Current.{is_locked}
 use Rattle.db_state.specs.Locked.{is_own, is_exclusive}
-use Rattle.db_state.specs.Holding.{locks_key, locks_alone, HoldsAll, IsPlanOf, Leaves}
+use Rattle.db_state.specs.Holding.{locks_key, locks_alone, HoldsAll, AreSameLocks, Leaves}
 
 -- what the one locks Exclusive the other doesn't lock
 abbrev pub HaveNoneInCommon : List (Key × Mode) → List (Key × Mode) → Type 0
@@ -160,5 +160,5 @@ holds_took notes s keys n k is all = record {
     both a b p q = rw (p, q) refl
 
 -- whoever holds the keys of a plan holds what the plan locks
-pub holds_plan : (locks : List Taking) (s : SessionId) (keys locked : List (Key × Mode)) → IsPlanOf keys locked → HoldsAll locks s keys → HoldsAll locks s locked
+pub holds_plan : (locks : List Taking) (s : SessionId) (keys locked : List (Key × Mode)) → AreSameLocks keys locked → HoldsAll locks s keys → HoldsAll locks s locked
 holds_plan locks s keys locked is all = record { any = λ at e. all.any at (sym (is.any at) ∙ e); own = λ at e. all.own at (sym (is.own at) ∙ e) }

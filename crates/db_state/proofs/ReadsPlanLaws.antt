@@ -28,7 +28,7 @@ pub record SameFound (old new : Key × Inode) : Type 0 where
 -- the two places are the same to a plan
 pub record SamePlace (old new : Place) : Type 0 where
   pub path : new.path ≡ old.path
-  pub gone : new.missing ≡ old.missing
+  pub same_missing : new.missing ≡ old.missing
   pub rows : AllPairs SameFound old.found.items new.found.items
 
 -- the two options have values that are related, or none
@@ -99,7 +99,7 @@ module _ (old new : Place) (is : SamePlace old new) where
   low-same = opt-list SameFound (λ (r : Key × Inode). r.0) (λ x y s. s.key) (last_found old) (last_found new) last_pair
 
   next-same : next new ≡ next old
-  next-same = ap (λ (o : Option Key). option_to_list o) is.gone
+  next-same = ap (λ (o : Option Key). option_to_list o) is.same_missing
 
   parent-same : parent new ≡ parent old
   parent-same = ap (λ (b : Bool). where_so b (list_map (λ (r : Key × Inode). r.0) (option_to_list (parent_found new)))) whole-same

@@ -28,7 +28,7 @@ as_read_same [] [] all = tt
 as_read_same [] (y ∷ ys) all = absurd all
 as_read_same (x ∷ xs) [] all = absurd all
 as_read_same (x ∷ xs) (y ∷ ys) all = (
-  record { path = all.0.path; gone = all.0.missing; rows = subst (λ (f : _). AllPairs SameFound x.found.items f.items) (sym all.0.found) (found_same x.found.items) },
+  record { path = all.0.path; same_missing = all.0.missing; rows = subst (λ (f : _). AllPairs SameFound x.found.items f.items) (sym all.0.found) (found_same x.found.items) },
   as_read_same xs ys all.1,
 )
 

@@ -1,6 +1,6 @@
 -- The clients' seats, once one of them is changed.
 use Rattle.std.proofs.Common.{◌≡◌, ◌≢◌, ℕ, ◌+◌, ◌<◌, ◌≤◌, zero, suc, Bool, true, false, ◌&&◌, ◌||◌, ◌==◌, nat_lt, List, [], ◌∷◌, length, slice_get, slice_set, Some, arith, refl, sym, ap, subst, ◌∙◌, eqb-true}
-use Rattle.std.proofs.lemmas.Bool.{ltb-true, lt-ltb}
+use Rattle.std.proofs.lemmas.Bool.{ltb-true, lt-ltb, false_from_ne_true}
 use Rattle.std.proofs.lemmas.List.Sums.{sum_by-cons}
 use Rattle.std.specs.List.{list_any, sum_by, AllByRecursion}
 use Rattle.hops_base.specs.declared.ids.ClientNo.{ClientNo}
@@ -8,6 +8,7 @@ use Rattle.commit_log.specs.declared.note.Note.{Note}
 use Rattle.commit_log.specs.declared.note.Note.TheVariants.{Open, Took, Gave, Wrote, Did, Cut, Met, Gone}
 use Rattle.commit_log.specs.Parts.{answers_call}
 use Rattle.commit_log.specs.Kept.{answers_after}
+use Rattle.db_state.specs.BookParts.{opens_after}
 
 -- ---- a seat of the list is changed
 
@@ -52,6 +53,17 @@ module _ {X : Type 0} where
 
 -- ---- what a client's last answer says of the others
 
+pub not_and : (a b : Bool) → a ≡ false → (a && b) ≡ false
+not_and a b e = rw e refl
+
+pub not_and_right : (a b : Bool) → b ≡ false → (a && b) ≡ false
+not_and_right true b e = e
+not_and_right false b e = refl
+
+-- no number is below itself
+pub not_below : (n : ℕ) → nat_lt n n ≡ false
+not_below n = false_from_ne_true (nat_lt n n) (λ is. let bad : n < n = ltb-true n n is in omega arith)
+
 not_less : (low high number : ℕ) (mine : Bool) → low ≤ high → (mine && nat_lt low number) ≡ false → (mine && nat_lt high number) ≡ false
 not_less low high number false le e = refl
 not_less low high number true le e =
@@ -88,20 +100,33 @@ not_at client low high (Met s cause) less e = refl
 not_at client low high (Gone node ended) less e = refl
 not_at client low high (Did s other number call reads reply) less e = not_same low high number (other.0 == client.0) less e
 
+-- what no note is where it fails a test, none is where none passes
+pub none_weaker : (test weaker : Note → Bool) → ((note : Note) → test note ≡ false → weaker note ≡ false) → (notes : List Note) → list_any test notes ≡ false → list_any weaker notes ≡ false
+none_weaker test weaker gives [] e = refl
+none_weaker test weaker gives (note ∷ notes) e =
+    elim (test note) as (λ b. test note ≡ b → (b || list_any test notes) ≡ false → (weaker note || list_any weaker notes) ≡ false) [
+      | true ↦ λ is f. absurd (let bad = f in cc)
+      | false ↦ λ is f. rw (gives note is) (none_weaker test weaker gives notes f)
+    ] refl e
+
 -- where none is after a lower number, none is after a higher one
 pub none_after : (client : ClientNo) (low high : ℕ) (notes : List Note) → low ≤ high → list_any (answers_after client low) notes ≡ false → list_any (answers_after client high) notes ≡ false
-none_after client low high [] le e = refl
-none_after client low high (note ∷ notes) le e =
-    elim (answers_after client low note) as (λ b. answers_after client low note ≡ b → (b || list_any (answers_after client low) notes) ≡ false → (answers_after client high note || list_any (answers_after client high) notes) ≡ false) [
-      | true ↦ λ is f. absurd (let bad = f in cc)
-      | false ↦ λ is f. rw (not_after client low high note le is) (none_after client low high notes le f)
-    ] refl e
+none_after client low high notes le = none_weaker (answers_after client low) (answers_after client high) (λ note. not_after client low high note le) notes
 
 -- where none is after a lower number, none is at a higher one
 pub none_at : (client : ClientNo) (low high : ℕ) (notes : List Note) → low < high → list_any (answers_after client low) notes ≡ false → list_any (answers_call client high) notes ≡ false
-none_at client low high [] less e = refl
-none_at client low high (note ∷ notes) less e =
-    elim (answers_after client low note) as (λ b. answers_after client low note ≡ b → (b || list_any (answers_after client low) notes) ≡ false → (answers_call client high note || list_any (answers_call client high) notes) ≡ false) [
-      | true ↦ λ is f. absurd (let bad = f in cc)
-      | false ↦ λ is f. rw (not_at client low high note less is) (none_at client low high notes less f)
-    ] refl e
+none_at client low high notes less = none_weaker (answers_after client low) (answers_call client high) (λ note. not_at client low high note less) notes
+
+opens_not_after : (client : ClientNo) (low high : ℕ) (note : Note) → low ≤ high → opens_after client low note ≡ false → opens_after client high note ≡ false
+opens_not_after client low high (Open s other number node) le e = not_less low high number (other.0 == client.0) le e
+opens_not_after client low high (Took s key mode) le e = refl
+opens_not_after client low high (Gave s) le e = refl
+opens_not_after client low high (Wrote s work) le e = refl
+opens_not_after client low high (Cut op path gone) le e = refl
+opens_not_after client low high (Met s cause) le e = refl
+opens_not_after client low high (Gone node ended) le e = refl
+opens_not_after client low high (Did s other number call reads reply) le e = refl
+
+-- where no call after a lower number was opened, none after a higher one was
+pub none_opened_after : (client : ClientNo) (low high : ℕ) (notes : List Note) → low ≤ high → list_any (opens_after client low) notes ≡ false → list_any (opens_after client high) notes ≡ false
+none_opened_after client low high notes le = none_weaker (opens_after client low) (opens_after client high) (λ note. opens_not_after client low high note le) notes

@@ -17,6 +17,6 @@ pub reading_on : (inodes inodes' : Inodes) (quotas quotas' : Quotas) (locks lock
 reading_on inodes inodes' quotas quotas' locks locks' s session still (Resolve places found) reading = reading
 reading_on inodes inodes' quotas quotas' locks locks' s session still (Lock places keys taken) reading = reading
 reading_on inodes inodes' quotas quotas' locks locks' s session still (Read places keys) reading = reading
-reading_on inodes inodes' quotas quotas' locks locks' s session still (Reread reads keys) reading = (reading.0, still (asked_in session) reads reading.1)
-reading_on inodes inodes' quotas quotas' locks locks' s session still (Commit reads keys) reading = (reading.0, still (asked_in session) reads reading.1, reading.2)
+reading_on inodes inodes' quotas quotas' locks locks' s session still (Reread reads keys) reading = (reading.0, still (asked_in session) reads reading.1, reading.2)
+reading_on inodes inodes' quotas quotas' locks locks' s session still (Commit reads keys) reading = (reading.0, still (asked_in session) reads reading.1, reading.2, reading.3)
 reading_on inodes inodes' quotas quotas' locks locks' s session still Answered reading = tt

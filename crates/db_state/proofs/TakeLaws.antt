@@ -1,7 +1,7 @@
 -- All that the core keeps, once a session has taken the next of its keys.
-use Rattle.std.proofs.Common.{◌≡◌, ℕ, ◌+◌, ◌≤◌, ◌<◌, Bool, true, false, ◌&&◌, ◌==◌, cond, List, [], ◌∷◌, ◌++◌, length, take, slice_get, Option, Some, None, arith, refl, sym, ap, subst, ◌∙◌, eqb-true, inl}
+use Rattle.std.proofs.Common.{◌≡◌, ℕ, ◌+◌, ◌<◌, Bool, true, false, ◌&&◌, ◌==◌, cond, List, [], ◌∷◌, ◌++◌, if◌then◌else◌, ◌≢◌, length, take, slice_get, Option, Some, None, arith, refl, sym, ap, subst, ◌∙◌, eqb-true, inl}
 use Rattle.std.proofs.lemmas.Bool.{eqb-false}
-use Rattle.std.proofs.lemmas.Option.{slice_get_within}
+use Rattle.std.proofs.Math.Seq.{take-length}
 use Rattle.std.specs.FinMap as map
 use Rattle.hops_base.specs.declared.ids.SessionId.{SessionId}
 use Rattle.hops_base.specs.declared.ids.Mode.{Mode}
@@ -13,24 +13,24 @@ use Rattle.row_locks.specs.Plans.{planned_mode}
 use Rattle.commit_log.specs.declared.note.Note.TheVariants.{Took}
 use Rattle.commit_log.specs.Parts.{Taking}
 use Rattle.commit_log.specs.Locks.{held}
-use Rattle.commit_log.specs.Kept.{answers_after}
 use Rattle.db_state.specs.declared.session.Session.{Session}
 use Rattle.db_state.specs.declared.session.Stage.{Stage}
 use Rattle.db_state.specs.declared.session.Stage.TheVariants.{Resolve, Lock, Read, Reread, Commit, Answered}
 use Rattle.db_state.specs.declared.view.Place.{Place}
 use Rattle.hops_base.specs.Roomy.{Roomy}
 use Rattle.db_state.specs.State.{State}
-use Rattle.db_state.specs.Stages.{is_over, keys_in, next_key, rows_in, missing_in}
+use Rattle.db_state.specs.Stages.{is_over, keys_in, next_key}
 use Rattle.db_state.specs.Core.{IsCore}
-use Rattle.db_state.specs.Steps.{taken_by, one_more, CanTake}
+use Rattle.db_state.specs.Steps.{with_session, taken_by, one_more, CanTake}
 use Rattle.db_state.specs.LockParts.{keys_of_session}
-use Rattle.db_state.specs.SessionParts.{IsReading, IsAsFound, IsOpened}
+use Rattle.db_state.specs.SessionParts.{IsReading, IsStillFound, IsAsFound, IsOpened}
 use Rattle.db_state.specs.BookParts.{IsSeated}
 use Rattle.db_state.proofs.ConsistentLaws.{noted_consistent}
 use Rattle.db_state.proofs.LockPartLaws.{mode_of-put, book_took, plans_with}
 use Rattle.db_state.proofs.SessionMapLaws.{with_all}
-use Rattle.db_state.proofs.BookTellLaws.{opened_on, found_on, any-push}
+use Rattle.db_state.proofs.BookTellLaws.{opened_on, found_on}
 use Rattle.db_state.proofs.BookLaws.{book-push, was_opened}
+use Rattle.db_state.proofs.SeatTellLaws.{there_with, told_on}
 use Rattle.db_state.proofs.StageLaws.{reading_on}
 use Rattle.db_state.proofs.ReadsHoldLaws.{leaves_others}
 use Rattle.db_state.proofs.ReadsBesideLaws.{stands_beside}
@@ -56,8 +56,19 @@ module _ (old : State) (s : SessionId) (doing : Session) (k : Key × Mode) (core
   abbrev after : Session
   after = record doing { stage = one_more doing.stage }
 
-  stage_after : one_more doing.stage ≡ Lock at.places at.keys (at.taken + 1)
+  -- the session asks for more keys, or has them all
+  abbrev further : Bool → Stage
+  further more = if more then Read at.places at.keys else Lock at.places at.keys (at.taken + 1)
+
+  stage_after : one_more doing.stage ≡ further (at.taken + 1 == length at.keys)
   stage_after = ap one_more at.is
+
+  keys_after : keys_in (one_more doing.stage) ≡ take (at.taken + 1) at.keys
+  keys_after = ap keys_in stage_after ∙ go (at.taken + 1 == length at.keys) refl
+    where
+      go : (b : Bool) → (at.taken + 1 == length at.keys) ≡ b → keys_in (further b) ≡ take (at.taken + 1) at.keys
+      go true all = sym (ap (λ (n : ℕ). take n at.keys) (eqb-true (at.taken + 1) (length at.keys) all) ∙ take-length at.keys)
+      go false less = refl
 
   reading : IsReading old.stored.inodes old.stored.quotas (held old.stored.notes) s doing (Lock at.places at.keys at.taken)
   reading = subst (IsReading old.stored.inodes old.stored.quotas (held old.stored.notes) s doing) at.is (core.reads s doing can.there)
@@ -85,17 +96,21 @@ module _ (old : State) (s : SessionId) (doing : Session) (k : Key × Mode) (core
 
   -- the session itself, a key further
   reading_after : (locks : List Taking) → IsReading old.stored.inodes old.stored.quotas locks s after (one_more doing.stage)
-  reading_after locks =
-      let within : at.taken < length at.keys = slice_get_within at.keys at.taken k at.next in
-      subst (IsReading old.stored.inodes old.stored.quotas locks s after) (sym stage_after) (reading.0, (let less : at.taken + 1 ≤ length at.keys = omega arith in less))
+  reading_after locks = subst (IsReading old.stored.inodes old.stored.quotas locks s after) (sym stage_after) (go (at.taken + 1 == length at.keys) refl)
+    where
+      go : (b : Bool) → (at.taken + 1 == length at.keys) ≡ b → IsReading old.stored.inodes old.stored.quotas locks s after (further b)
+      go true all = reading.0
+      go false less =
+          let within : at.taken < length at.keys = reading.1 in
+          let apart : at.taken + 1 ≢ length at.keys = eqb-false (at.taken + 1) (length at.keys) less in
+          (reading.0, (let still : at.taken + 1 < length at.keys = omega arith in still))
 
   found_after : IsAsFound old.stored.inodes old.stored.notes s after
-  found_after = λ quiet.
-      let was = core.found s doing can.there quiet in
-      subst (λ (stage : Stage). Rattle.std.specs.List.AllByRecursion (Rattle.db_state.specs.PlaceOf.IsFound old.stored.inodes) (rows_in (one_more stage))
-      × Rattle.std.specs.List.AllByRecursion (λ (key : Key). map.get old.stored.inodes key ≡ None) (missing_in (one_more stage))) (sym at.is)
-      (subst (λ (stage : Stage). Rattle.std.specs.List.AllByRecursion (Rattle.db_state.specs.PlaceOf.IsFound old.stored.inodes) (rows_in stage)
-      × Rattle.std.specs.List.AllByRecursion (λ (key : Key). map.get old.stored.inodes key ≡ None) (missing_in stage)) at.is was)
+  found_after = λ quiet. subst (IsStillFound old.stored.inodes) (sym stage_after) (go (at.taken + 1 == length at.keys) (subst (IsStillFound old.stored.inodes) at.is (core.found s doing can.there quiet)))
+    where
+      go : (b : Bool) → IsStillFound old.stored.inodes (Lock at.places at.keys at.taken) → IsStillFound old.stored.inodes (further b)
+      go true was = was
+      go false was = was
 
   opened_after : IsOpened old.stored.notes s after
   opened_after = record { opening = mine.opening; place = mine.place; since = mine.since; running = λ r. mine.running runs; valid = mine.valid }
@@ -103,13 +118,13 @@ module _ (old : State) (s : SessionId) (doing : Session) (k : Key × Mode) (core
   seated_after : IsSeated old.seats s after
   seated_after =
       let seat = core.seats.seated s doing can.there in
-      record { seat = seat.seat; there = seat.there; last = seat.last; number = seat.number; running = λ r. seat.running runs }
+      record { seat = seat.seat; there = seat.there; last = seat.last; number = λ r. seat.number runs; low = λ r. seat.low runs }
 
   took_at : IsCore (taken_by old s doing k)
   took_at = record {
     stored = noted_consistent old.stored (Took s k.0 k.1) core.stored refl refl;
     locks = book_took old.locks old.stored.notes s k.0 k.1 free core.locks;
-    plans = plans_with old.locks (map.insert old.locks (s.0, k.0) k.1) old.sessions s after (take (at.taken + 1) at.keys) (ap keys_in stage_after) modes core.plans;
+    plans = plans_with old.locks (map.insert old.locks (s.0, k.0) k.1) old.sessions s after (take (at.taken + 1) at.keys) keys_after modes core.plans;
     reads = with_all (λ t session. IsReading old.stored.inodes old.stored.quotas (held (old.stored.notes ++ Took s k.0 k.1 ∷ [])) t session session.stage) old.sessions s after
         (reading_after (held (old.stored.notes ++ Took s k.0 k.1 ∷ [])))
         (λ t other apart e. reading_on old.stored.inodes old.stored.inodes old.stored.quotas old.stored.quotas (held old.stored.notes) (held (old.stored.notes ++ Took s k.0 k.1 ∷ [])) t other
@@ -124,7 +139,7 @@ module _ (old : State) (s : SessionId) (doing : Session) (k : Key × Mode) (core
     seats = record {
       each = core.seats.each;
       numbers = core.seats.numbers;
-      answers = λ client seat e. any-push (answers_after client seat.answered) old.stored.notes (Took s k.0 k.1) (core.seats.answers client seat e) refl;
+      told = λ client seat e. told_on old.sessions (with_session old.sessions s after) old.stored.notes (Took s k.0 k.1) client seat refl refl (there_with old.sessions s doing after client can.there refl) (core.seats.told client seat e);
       seated = with_all (IsSeated old.seats) old.sessions s after seated_after (λ t other apart e. core.seats.seated t other e);
     };
     ids = core.ids;
@@ -140,6 +155,8 @@ module _ (old : State) (s : SessionId) (doing : Session) (k : Key × Mode) (core
       );
       licensed = tt;
       in_order = tt;
+      never_falls = tt;
+      last = tt;
       held = tt;
     }) core.book;
   }

@@ -19,23 +19,23 @@ use Rattle.commit_log.specs.Parts.{Taking, passes}
 use Rattle.commit_log.specs.Locks.{is_of, is_above, clashes, held}
 use Rattle.db_state.specs.LockParts.{same_mode, is_lock, AreOfBook}
 
-mode_itself : (mode : Mode) → same_mode mode mode ≡ true
+pub mode_itself : (mode : Mode) → same_mode mode mode ≡ true
 mode_itself Shared = refl
 mode_itself Exclusive = refl
 
-one_mode : (a b : Mode) → same_mode a b ≡ true → a ≡ b
+pub one_mode : (a b : Mode) → same_mode a b ≡ true → a ≡ b
 one_mode Shared Shared e = refl
 one_mode Shared Exclusive e = let bad = e in cc
 one_mode Exclusive Shared e = let bad = e in cc
 one_mode Exclusive Exclusive e = refl
 
-key_itself : (k : Key) → same_key k k ≡ true
+pub key_itself : (k : Key) → same_key k k ≡ true
 key_itself k = elim (keys_tell k k) [ inl h ↦ h.0 | inr h ↦ absurd (h.1 refl) ]
 
 one_key : (a b : Key) → same_key a b ≡ true → a ≡ b
 one_key a b e = elim (keys_tell a b) [ inl h ↦ h.1 | inr h ↦ absurd (let bad = h.0 in cc) ]
 
-both_true : (a b : Bool) → a ≡ true → b ≡ true → (a && b) ≡ true
+pub both_true : (a b : Bool) → a ≡ true → b ≡ true → (a && b) ≡ true
 both_true a b p q = rw (p, q) refl
 
 -- a lock is one of its own session, key and mode

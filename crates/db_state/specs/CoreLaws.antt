@@ -8,7 +8,6 @@ use Rattle.hops_base.specs.declared.ids.Mode.{Mode}
 use Rattle.hops_base.specs.declared.key.Key.{Key}
 use Rattle.name_space.specs.declared.call.Call.{Call}
 use Rattle.name_space.specs.declared.reply.Reply.{Reply}
-use Rattle.commit_log.specs.declared.note.Cause.{Cause}
 use Rattle.db_state.specs.declared.session.Session.{Session}
 use Rattle.db_state.specs.declared.session.Stage.TheVariants.{Answered}
 use Rattle.db_state.specs.declared.writes.Row.{Row}
@@ -16,7 +15,7 @@ use Rattle.db_state.specs.Settings.{Settings}
 use Rattle.db_state.specs.State.{State, opening_state}
 use Rattle.db_state.specs.Reads.{Reads}
 use Rattle.db_state.specs.Core.{IsCore}
-use Rattle.db_state.specs.Steps.{start, CanOpen, opened_by, CanTake, taken_by, CanMeet, met_by, CanMove, moved_by, IsRunning, Gives, CanAnswer, Completes}
+use Rattle.db_state.specs.Steps.{start, CanOpen, opened_by, begun_by, CanTake, taken_by, CanMeet, met_by, CanMove, moved_by, IsRunning, Gives, CanChange, Changes, CanAnswer, Completes}
 use Rattle.db_state.specs.Waits.{WaitInTurn}
 
 -- it holds before anything happened
@@ -34,9 +33,16 @@ abbrev pub TakingAKeyKeepsIt : Type 0
 TakingAKeyKeepsIt =
     (old : State) (s : SessionId) (doing : Session) (k : Key × Mode) → IsCore old → CanTake old s doing k → IsCore (taken_by old s doing k)
 
--- it holds once a session has met what was there
-abbrev pub MeetingKeepsIt : Type 0
-MeetingKeepsIt = (old : State) (s : SessionId) (cause : Cause) → IsCore old → CanMeet old s cause → IsCore (met_by old s cause)
+-- it holds once the client's next call is counted
+abbrev pub CountingACallKeepsIt : Type 0
+CountingACallKeepsIt =
+    (old : State) (client : ClientNo) (number : ℕ) (call : Call) (node : NodeNo) → IsCore old → CanOpen old client number call node
+    → IsCore (begun_by old client number)
+
+-- it holds once a session has met a lock that keeps it away
+abbrev pub MeetingALockKeepsIt : Type 0
+MeetingALockKeepsIt =
+    (old : State) (s : SessionId) (doing : Session) (k : Key × Mode) (h : SessionId) → IsCore old → CanMeet old s doing k h → IsCore (met_by old s k h)
 
 -- it holds once a session has gone on without a note
 abbrev pub GoingOnKeepsIt : Type 0
@@ -51,6 +57,10 @@ BeginningAnewKeepsIt =
 abbrev pub EndingKeepsIt : Type 0
 EndingKeepsIt =
     (old new : State) (s : SessionId) (doing : Session) → IsCore old → IsRunning old s doing → Gives old new s doing Answered → IsCore new
+
+-- it holds once a session has met a change of what it had found, and begins anew
+abbrev pub MeetingAChangeKeepsIt : Type 0
+MeetingAChangeKeepsIt = (old new : State) (s : SessionId) (doing : Session) → IsCore old → CanChange old s doing → Changes old new s doing → IsCore new
 
 -- it holds once a session has answered
 abbrev pub AnsweringKeepsIt : Type 0

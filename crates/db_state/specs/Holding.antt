@@ -1,4 +1,4 @@
--- Which keys a session locks_key, and what of a session holds between its steps once it holds its plan. This project's own.
+-- Which keys a session holds, and what of a session holds between its steps once it holds its plan. This project's own.
 use Rattle.std.specs.Prelude.{◌≡◌, Bool, true, ◌&&◌, List}
 use Rattle.std.specs.List.{list_any}
 use Rattle.hops_base.specs.declared.ids.Mode.{Mode}
@@ -30,7 +30,7 @@ pub record HoldsAll (locks : List Taking) (s : SessionId) (locked : List (Key ×
   pub own : (at : Key) → is_own locked at ≡ true → list_any (locks_alone s at) locks ≡ true
 
 -- these keys, in whatever order, are those that are locked, and Exclusive where those are
-pub record IsPlanOf (keys locked : List (Key × Mode)) : Type 0 where
+pub record AreSameLocks (keys locked : List (Key × Mode)) : Type 0 where
   pub any : (at : Key) → is_locked locked at ≡ is_locked keys at
   pub own : (at : Key) → is_own locked at ≡ is_own keys at
 

@@ -82,7 +82,7 @@ pub record IsReadAgain (inodes : Inodes) (locked : List (Key × Mode)) (old new 
 -- nothing is at its first missing key
 pub record IsPlaceRead (inodes : Inodes) (locked : List (Key × Mode)) (own : Option OpId) (old new : Place) : Type 0 where
   pub path : new.path ≡ old.path
-  pub gone : new.missing ≡ old.missing
+  pub same_missing : new.missing ≡ old.missing
   pub rows : AllPairs (IsReadAgain inodes locked) old.found.items new.found.items
   pub missing : IsMissing inodes old.missing
   pub unflagged : list_all (λ (r : Key × Inode). is_unflagged own r.1.flag) new.found.items ≡ true

@@ -32,7 +32,7 @@ use Rattle.db_state.specs.Locked.{MayWrite, WritesOwn}
 use Rattle.db_state.specs.Effects.{KeepsRows, KeepsOthers}
 use Rattle.db_state.specs.Reads.{Asked, Reads, locked_by, AllRead, EndsLocked, AreReads, ReadsStand, AllFixed}
 use Rattle.db_state.specs.ReadSteps.{AllPairs, LeadsTo, IsOfPath, IsInside, IsFoundAgain, IsPlaceRead, last_marks, IsViewOfReads}
-use Rattle.db_state.specs.Holding.{HoldsAll, IsPlanOf, Leaves, SessionStands, StandsIn}
+use Rattle.db_state.specs.Holding.{HoldsAll, AreSameLocks, Leaves, SessionStands, StandsIn}
 
 -- ---- rows are found one by one
 
@@ -185,5 +185,5 @@ NextKeyIsHeld =
 -- whoever holds the keys of a plan holds what the plan locks
 abbrev pub PlanIsHeld : Type 0
 PlanIsHeld =
-    (locks : List Taking) (s : SessionId) (keys locked : List (Key × Mode)) → IsPlanOf keys locked
+    (locks : List Taking) (s : SessionId) (keys locked : List (Key × Mode)) → AreSameLocks keys locked
     → HoldsAll locks s keys → HoldsAll locks s locked

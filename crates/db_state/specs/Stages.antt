@@ -6,6 +6,8 @@ use Rattle.hops_base.specs.declared.key.Key.{Key}
 use Rattle.inode_table.specs.declared.inode.Inode.{Inode}
 use Rattle.db_state.specs.declared.session.Phase.{Phase}
 use Rattle.db_state.specs.declared.session.Phase.TheVariants as phase
+use Rattle.db_state.specs.declared.session.Progress.{Progress}
+use Rattle.db_state.specs.declared.session.Session.{Session}
 use Rattle.db_state.specs.declared.session.Stage.{Stage}
 use Rattle.db_state.specs.declared.session.Stage.TheVariants.{Resolve, Lock, Read, Reread, Commit, Answered}
 use Rattle.db_state.specs.declared.view.Place.{Place}
@@ -58,3 +60,11 @@ rows_in stage = flat_map (λ (place : Place). place.found.items) (places_in stag
 -- the keys at which it has found none
 abbrev pub missing_in : Stage → List Key
 missing_in stage = flat_map (λ (place : Place). option_to_list place.missing) (places_in stage)
+
+-- what of a session changes as it goes on
+abbrev pub progress_of : Session → Progress
+progress_of session = record { since = session.since; reads = session.reads; trail = session.trail; stage = session.stage }
+
+-- the session, so far gone on
+abbrev pub with_progress : Session → Progress → Session
+with_progress session progress = record session { since = progress.since; reads = progress.reads; trail = progress.trail; stage = progress.stage }

@@ -1,7 +1,7 @@
 //! Laws of all that the core keeps: it holds at first, each kind of change keeps it, and no sessions wait for each
 //! other in a circle.
 
-ghost use Rattle.db_state.specs.CoreLaws.{OpeningIsACore, OpeningASessionKeepsIt, TakingAKeyKeepsIt, MeetingKeepsIt, GoingOnKeepsIt, BeginningAnewKeepsIt, EndingKeepsIt, AnsweringKeepsIt, NobodyWaitsInACircle};
+ghost use Rattle.db_state.specs.CoreLaws.{OpeningIsACore, OpeningASessionKeepsIt, TakingAKeyKeepsIt, CountingACallKeepsIt, MeetingALockKeepsIt, MeetingAChangeKeepsIt, GoingOnKeepsIt, BeginningAnewKeepsIt, EndingKeepsIt, AnsweringKeepsIt, NobodyWaitsInACircle};
 
 /// Before anything happened, with whatever settings, what the core keeps holds.
 pub fn it_holds_at_first()
@@ -19,9 +19,20 @@ pub fn taking_a_key_keeps_it()
     ensures { TakingAKeyKeepsIt }
 {}
 
-/// It holds once a running session has met a conflict that was there.
-pub fn meeting_keeps_it()
-    ensures { MeetingKeepsIt }
+/// It holds once a client's next call is counted, though no session was opened for it.
+pub fn counting_a_call_keeps_it()
+    ensures { CountingACallKeepsIt }
+{}
+
+/// It holds once a session has met a lock of another that keeps it from its next key.
+pub fn meeting_a_lock_keeps_it()
+    ensures { MeetingALockKeepsIt }
+{}
+
+/// It holds once a running session has met a change of what it had found: it gives its locks back, tells since when,
+/// and begins a new attempt.
+pub fn meeting_a_change_keeps_it()
+    ensures { MeetingAChangeKeepsIt }
 {}
 
 /// It holds once a running session has gone on without a note: it holds what it held, and what it has read is as its

@@ -7,7 +7,7 @@ ghost use Rattle.commit_log.specs.Samples.{ben, make, yes, opens, gives, does, s
 ghost use Rattle.db_state.specs.Stored.{root_row};
 ghost use Rattle.db_state.specs.Reads.{AllRead, IsChain, AreReads, AllStand, ReadsStand, AllFixed, locked_by};
 ghost use Rattle.db_state.specs.ReadSteps.{SameRow, IsReadAgain, IsPlaceRead, last_marks, LeadsTo};
-ghost use Rattle.db_state.specs.Holding.{HoldsAll, IsPlanOf, Leaves};
+ghost use Rattle.db_state.specs.Holding.{HoldsAll, AreSameLocks, Leaves};
 ghost use Rattle.db_state.specs.ReadSamples.{d_x, d_key, x_key, d_row, x_row, with_id, as_file, written_by, with_mode, with_quota, flagged_by};
 ghost use Rattle.db_state.specs.ReadSamples.{rows, rows_to, rows_without_d, names_for_d, only, whole_from, whole, gap, reads, reads_with};
 ghost use Rattle.db_state.specs.ReadSamples.{makes_x, changes_x, removes_x, StandsFor, alone, shared, held_by};
@@ -160,10 +160,10 @@ pub fn plans_are_held()
 /// The keys of a plan may be joined, where each is as it is locked.
 #[tactic(auto, unfolding(hops_base::specs::Key::key_cmp))]
 pub fn plans_are_joined()
-    ensures joined { IsPlanOf (alone d_key) (shared d_key ++ alone d_key) }
-    ensures shared_only { ¬ IsPlanOf (shared d_key) (shared d_key ++ alone d_key) }
-    ensures one_left_out { ¬ IsPlanOf (alone d_key) (alone d_key ++ shared x_key) }
-    ensures one_more { ¬ IsPlanOf (alone d_key ++ shared x_key) (alone d_key) }
+    ensures joined { AreSameLocks (alone d_key) (shared d_key ++ alone d_key) }
+    ensures shared_only { ¬ AreSameLocks (shared d_key) (shared d_key ++ alone d_key) }
+    ensures one_left_out { ¬ AreSameLocks (alone d_key) (alone d_key ++ shared x_key) }
+    ensures one_more { ¬ AreSameLocks (alone d_key ++ shared x_key) (alone d_key) }
 {}
 
 /// A session's own Gave and Did take its locks, and so does a Gone of its namenode.

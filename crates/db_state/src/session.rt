@@ -1,13 +1,18 @@
 //! What a session is, and how far it has come.
 
-ghost use Rattle.std.specs.Prelude.{◌≡◌};
-ghost use Rattle.db_state.specs.Stages.{phase_of};
+ghost use Rattle.std.specs.Prelude.{◌≡◌, option_map};
+ghost use Rattle.row_locks.specs.Plans.{place_seen};
+ghost use Rattle.db_state.specs.Inside.{one_if_any};
+ghost use Rattle.db_state.specs.Stages.{keys_in, next_key, phase_of};
 
 use crate::view::{FoundList, PlaceList, QuotaList};
-use hops_base::{ClientNo, NodeNo, SessionId};
+use hops_base::{ClientNo, Hint, ItemList, Key, Mode, NodeNo, SessionId};
 use name_space::Call;
 use row_locks::Plan;
 use std::marker::Model;
+
+/// What a resolution found: which row under which parent has which id.
+pub type Trail = ItemList<Hint>;
 
 /// One call of a client, as a namenode carries it out.
 #[derive(Debug, Drop)]
@@ -19,10 +24,12 @@ pub struct Session {
     pub node: NodeNo,
     /// The number of the note that opened it.
     pub opened: u64,
-    /// How long the book was just before the first read of this attempt.
+    /// How long the book was just before the first read of this attempt, and, until it has read, when it began.
     pub since: u64,
     /// How many rows its attempts have read to resolve their paths. It stays at its last value.
     pub reads: u64,
+    /// What the last resolution that came to its end found, row by row, for whoever resolves these paths next.
+    pub trail: Trail,
     pub stage: Stage,
 }
 
@@ -33,6 +40,15 @@ pub struct Reads {
     pub places: PlaceList,
     pub marks: Vec<u64>,
     pub quotas: QuotaList,
+}
+
+/// What of a session changes as it goes on with its call.
+#[derive(Debug, Drop)]
+pub struct Progress {
+    pub since: u64,
+    pub reads: u64,
+    pub trail: Trail,
+    pub stage: Stage,
 }
 
 impl Model for Reads {
@@ -88,6 +104,29 @@ impl Stage {
             Stage::Reread(..) => Phase::Reread,
             Stage::Commit(..) => Phase::Commit,
             Stage::Answered => Phase::Answered,
+        }
+    }
+
+    /// The next key that the session asks for, with its mode. None where it asks for none. It takes no memory.
+    pub fn next_key(&self) -> Option<(&Key, Mode)>
+        ensures { option_map place_seen result ≡ next_key self.now }
+    {
+        match self {
+            Stage::Lock(_, plan, taken) => plan.get(*taken),
+            _ => None,
+        }
+    }
+
+    /// 1 where the session holds any key, else 0. It takes no memory.
+    pub fn holds_any(&self) -> u64
+        ensures { result ≡ one_if_any (keys_in self.now) }
+    {
+        match self {
+            Stage::Lock(_, plan, taken) => plan.len().min(*taken).min(1),
+            Stage::Read(_, plan) | Stage::Reread(_, plan) | Stage::Commit(_, plan) => plan
+                .len()
+                .min(1),
+            Stage::Resolve(..) | Stage::Answered => 0,
         }
     }
 }

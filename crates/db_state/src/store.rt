@@ -171,8 +171,8 @@ impl Store {
     }
 }
 
-// The key of the root's row.
-fn make_root_key(alloc: Global) -> Result<Key, NoMemory>
+/// The key of the root's row.
+pub fn make_root_key(alloc: Global) -> Result<Key, NoMemory>
     ensures { IfOk result (λ key. key ≡ root_key) }
 {
     match Name::read(alloc, "root") {
@@ -181,8 +181,8 @@ fn make_root_key(alloc: Global) -> Result<Key, NoMemory>
     }
 }
 
-// The root's row.
-fn make_root_row(alloc: Global) -> Result<Inode, NoMemory>
+/// The root's row.
+pub fn make_root_row(alloc: Global) -> Result<Inode, NoMemory>
     ensures { IfOk result (λ row. row ≡ root_row) }
 {
     match User::read(alloc, "hdfs") {
