@@ -29,7 +29,7 @@ use Rattle.db_state.specs.State.{State, empty_seat}
 use Rattle.db_state.specs.Written.{committed, written, tables_of, next_after}
 use Rattle.db_state.specs.Reads.{Reads, locked_by}
 use Rattle.db_state.specs.Holding.{HoldsAll}
-use Rattle.db_state.specs.Stages.{is_over}
+use Rattle.db_state.specs.Stages.{is_over, rows_in}
 use Rattle.db_state.specs.Core.{IsCore}
 use Rattle.db_state.specs.Steps.{seat_of, with_session, Completes, CanAnswer}
 use Rattle.db_state.specs.SessionParts.{asked_in, IsReading, IsAsFound, IsOpened}
@@ -39,6 +39,8 @@ use Rattle.db_state.proofs.SessionMapLaws.{with_all}
 use Rattle.db_state.proofs.SeatLaws.{get-set_same, get-set_other, all-set, all-at, length-set, sum-set, not_and, not_and_right, not_below, none_after, none_at}
 use Rattle.db_state.proofs.BookTellLaws.{opened_on, found_on, any-push}
 use Rattle.db_state.proofs.BookLaws.{book-push, was_opened}
+use Rattle.db_state.proofs.IdLemmas.{next_rises}
+use Rattle.db_state.proofs.OldRowsLaws.{HasOldRows, old_later}
 use Rattle.db_state.proofs.SeatTellLaws.{IsThere, last_there, past_none, there_with, told_on}
 use Rattle.db_state.proofs.StageLaws.{reading_on}
 use Rattle.db_state.proofs.ReadsHoldLaws.{leaves_others, holds_still}
@@ -200,6 +202,7 @@ module _ (old : State) (s : SessionId) (doing : Session) (reads : Reads) (keys :
     reads = with_all (λ t session. IsReading stored.inodes stored.quotas (held stored.notes) t session session.stage) old.sessions s ended tt others_read;
     found = with_all (IsAsFound stored.inodes stored.notes) old.sessions s ended (λ quiet. (tt, tt))
         (λ t other apart e. found_on old.stored.inodes stored.inodes old.stored.notes (Did s doing.client doing.number doing.call doing.reads reply) t other (core.opened t other e).since.1 (still t apart) (core.found t other e));
+    old = with_all (HasOldRows stored.next) old.sessions s ended tt (λ t other apart e. old_later old.stored.next stored.next (next_rises writes old.stored.next) (rows_in other.stage) (core.old t other e));
     opened = with_all (IsOpened stored.notes) old.sessions s ended
         (opened_on old.stored.notes (Did s doing.client doing.number doing.call doing.reads reply) s ended (λ r. absurd (let bad = r in cc))
         (record { opening = mine.opening; place = mine.place; since = mine.since; running = λ r. mine.running runs; valid = mine.valid }))
@@ -234,6 +237,7 @@ module _ (old : State) (s : SessionId) (doing : Session) (reads : Reads) (keys :
       licensed = tt;
       never_falls = tt;
       last = last_before;
+      within = refl;
       in_order = none_after doing.client seat.seat.answered doing.number old.stored.notes (let l = less in omega arith) none;
       held = can.held;
     }) core.book;

@@ -18,8 +18,9 @@ use Rattle.db_state.specs.declared.session.Session.{Session}
 use Rattle.db_state.specs.State.{Sessions}
 use Rattle.db_state.specs.LockParts.{same_mode, is_lock, AreOfBook}
 use Rattle.db_state.specs.CoreSamples.{alone_in, one_lock}
+use Rattle.db_state.proofs.SessionMapLaws.{with_all}
 use Rattle.db_state.proofs.LockPartLaws.{mode_of-put, book_left, book_took}
-use Rattle.db_state.proofs.OpeningCoreLaws.{no_lock}
+use Rattle.db_state.proofs.OpeningCoreLaws.{no_lock, no_session}
 
 -- ---- sessions
 
@@ -30,6 +31,10 @@ put_there sessions doing = map.get-insert nat_cmp_total sessions 1 doing 1
 -- the only session
 pub first_there : (doing : Session) → map.get (alone_in doing) 1 ≡ Some doing
 first_there doing = put_there map.empty doing
+
+-- what holds of the only session holds of each
+pub only_one : (P : SessionId → Session → Type 0) (doing : Session) → P (session 1) doing → (s : SessionId) (other : Session) → map.get (alone_in doing) s.0 ≡ Some other → P s other
+only_one P doing is = with_all P map.empty (session 1) doing is (λ t other apart e. absurd (let none = no_session t in cc))
 
 -- ---- locks
 

@@ -131,13 +131,13 @@ module _ (old : State) (s : SessionId) (doing : Session) (core : IsCore old) (th
 
   -- all is given back
   pub counted_give : (since : ℕ) (stage : Stage) → keys_in stage ≡ []
-      → IsCounted old.seats (with_session old.sessions s (record doing { since = since; stage = stage })) (old.stored.notes ++ gave_by s (one_if_any (keys_in doing.stage))) room opened
+      → IsCounted old.seats (with_session old.sessions s (record doing { is_first = false; used_hints = false; since = since; stage = stage })) (old.stored.notes ++ gave_by s (one_if_any (keys_in doing.stage))) room opened
       (holding - one_if_any (keys_in doing.stage))
   counted_give since stage bare =
       let more = openings_gave old.stored.notes s (one_if_any (keys_in doing.stage)) in
       let few = at_most_one (keys_in doing.stage) in
       let long = length_gave old.stored.notes s (one_if_any (keys_in doing.stage)) few in
-      let still = holders_still old s doing core there (record doing { since = since; stage = stage }) in
+      let still = holders_still old s doing core there (record doing { is_first = false; used_hints = false; since = since; stage = stage }) in
       let none : one_if_any (keys_in stage) ≡ 0 = ap one_if_any bare in
       let was = counted.holding in
       let a = counted.opened in
@@ -158,7 +158,7 @@ module _ (old : State) (s : SessionId) (doing : Session) (core : IsCore old) (th
 
   -- all is given back, and a change is met
   pub counted_change : (since : ℕ) (room' : ℕ) → length old.stored.notes + holding + 1 ≤ room'
-      → IsCounted old.seats (with_session old.sessions s (record doing { since = since; stage = start })) ((old.stored.notes ++ gave_by s (one_if_any (keys_in doing.stage))) ++ Met s (Changed doing.since) ∷ []) room' opened
+      → IsCounted old.seats (with_session old.sessions s (record doing { is_first = false; used_hints = false; since = since; stage = start })) ((old.stored.notes ++ gave_by s (one_if_any (keys_in doing.stage))) ++ Met s (Changed doing.since) ∷ []) room' opened
       (holding - one_if_any (keys_in doing.stage))
   counted_change since room' enough =
       let gave = openings_gave old.stored.notes s (one_if_any (keys_in doing.stage)) in
@@ -166,7 +166,7 @@ module _ (old : State) (s : SessionId) (doing : Session) (core : IsCore old) (th
       let few = at_most_one (keys_in doing.stage) in
       let long = length_gave old.stored.notes s (one_if_any (keys_in doing.stage)) few in
       let longer = length-push (old.stored.notes ++ gave_by s (one_if_any (keys_in doing.stage))) (Met s (Changed doing.since)) in
-      let still = holders_still old s doing core there (record doing { since = since; stage = start }) in
+      let still = holders_still old s doing core there (record doing { is_first = false; used_hints = false; since = since; stage = start }) in
       let was = counted.holding in
       let a = counted.opened in
       record { opened = omega arith; holding = omega arith; room = omega arith }

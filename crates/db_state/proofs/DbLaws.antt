@@ -123,14 +123,14 @@ module _ (state : State) (top : Key) (room opened holding : ℕ) (inside : IsIns
         stored = record state.stored { notes = state.stored.notes ++ gave_by s (one_if_any (keys_in doing.stage)) };
         locks = locks;
         seats = state.seats;
-        sessions = with_session state.sessions s (record doing { since = length (state.stored.notes ++ gave_by s (one_if_any (keys_in doing.stage))); stage = stage });
+        sessions = with_session state.sessions s (record doing { is_first = false; used_hints = false; since = length (state.stored.notes ++ gave_by s (one_if_any (keys_in doing.stage))); stage = stage });
       }) top room opened (holding - one_if_any (keys_in doing.stage))
   given_inside stage locks runs bare given = record {
     core = given_core state (record {
       stored = record state.stored { notes = state.stored.notes ++ gave_by s (one_if_any (keys_in doing.stage)) };
       locks = locks;
       seats = state.seats;
-      sessions = with_session state.sessions s (record doing { since = length (state.stored.notes ++ gave_by s (one_if_any (keys_in doing.stage))); stage = stage });
+      sessions = with_session state.sessions s (record doing { is_first = false; used_hints = false; since = length (state.stored.notes ++ gave_by s (one_if_any (keys_in doing.stage))); stage = stage });
     }) s doing stage inside.core runs bare (record { stored = given_notes state.stored s (keys_in doing.stage); locks = given; seats = refl; sessions = refl });
     top_key = inside.top_key;
     settings = inside.settings;
@@ -138,12 +138,12 @@ module _ (state : State) (top : Key) (room opened holding : ℕ) (inside : IsIns
   }
 
   -- a change is met
-  pub changed_inside : (locks : Locks) (room' : ℕ) → CanChange state s doing → IsGivenBack s state.locks locks → length state.stored.notes + holding + 1 ≤ room'
+  pub changed_inside : (locks : Locks) (room' : ℕ) → CanChange state s doing false → IsGivenBack s state.locks locks → length state.stored.notes + holding + 1 ≤ room'
       → IsInside (record {
         stored = record state.stored { notes = (state.stored.notes ++ gave_by s (one_if_any (keys_in doing.stage))) ++ Met s (Changed doing.since) ∷ [] };
         locks = locks;
         seats = state.seats;
-        sessions = with_session state.sessions s (record doing { since = length ((state.stored.notes ++ gave_by s (one_if_any (keys_in doing.stage))) ++ Met s (Changed doing.since) ∷ []); stage = start });
+        sessions = with_session state.sessions s (record doing { is_first = false; used_hints = false; since = length ((state.stored.notes ++ gave_by s (one_if_any (keys_in doing.stage))) ++ Met s (Changed doing.since) ∷ []); stage = start });
       }) top room' opened (holding - one_if_any (keys_in doing.stage))
   changed_inside locks room' can given enough =
       let long : ℕ = length ((state.stored.notes ++ gave_by s (one_if_any (keys_in doing.stage))) ++ Met s (Changed doing.since) ∷ []) in
@@ -152,7 +152,7 @@ module _ (state : State) (top : Key) (room opened holding : ℕ) (inside : IsIns
           stored = record state.stored { notes = (state.stored.notes ++ gave_by s (one_if_any (keys_in doing.stage))) ++ Met s (Changed doing.since) ∷ [] };
           locks = locks;
           seats = state.seats;
-          sessions = with_session state.sessions s (record doing { since = long; stage = start });
+          sessions = with_session state.sessions s (record doing { is_first = false; used_hints = false; since = long; stage = start });
         }) s doing inside.core can
             (record { stored = ap (λ (stored : Stored). noted stored (Met s (Changed doing.since))) (given_notes state.stored s (keys_in doing.stage)); locks = given; seats = refl; sessions = refl });
         top_key = inside.top_key;
@@ -257,11 +257,11 @@ kept_at state s h kept doing k there next =
     record { there = there; next = next; busy = subst (λ (k' : Key × Mode). IsLeastInTheWay state.locks s k'.0 k'.1 h) key kept.2.busy }
 
 -- the session is the one whose reads are behind
-pub behind_at : (state : State) (s : SessionId) → IsBehind state s → (doing : Session) → map.get state.sessions s.0 ≡ Some doing → CanChange state s doing
-behind_at state s behind doing there =
+pub behind_at : (state : State) (s : SessionId) (hinted : Bool) → IsBehind state s hinted → (doing : Session) → map.get state.sessions s.0 ≡ Some doing → CanChange state s doing hinted
+behind_at state s hinted behind doing there =
     let one : Some behind.0 ≡ Some doing = sym behind.1.runs.there ∙ there in
     let same : behind.0 ≡ doing = cc in
-    subst (CanChange state s) same behind.1
+    subst (λ (d : Session). CanChange state s d hinted) same behind.1
 
 -- the session is the one that may answer
 pub answer_at : (state : State) (s : SessionId) (writes : List (Key × Option Row)) (reply : Reply) → IsAnswer state s writes reply → (doing : Session) → map.get state.sessions s.0 ≡ Some doing

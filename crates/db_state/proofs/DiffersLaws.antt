@@ -26,6 +26,7 @@ use Rattle.db_state.proofs.SessionMapLaws.{get-with}
 use Rattle.db_state.proofs.BookTellLaws.{length-push}
 use Rattle.db_state.proofs.GiveLaws.{start_is_bare, given_core}
 use Rattle.db_state.proofs.MetLaws.{met_state, met_core}
+use Rattle.db_state.proofs.AsFoundLaws.{read_as_found}
 use Rattle.db_state.proofs.MoveLaws.{moved_core}
 
 -- what holds of a book holds once a session has given its keys back, where one note more keeps it
@@ -43,13 +44,13 @@ put_twice sessions s first last = map.same_map nat_cmp_total exact_unsigned (wit
     go true o = refl
     go false o = refl
 
-module _ (old new : State) (s : SessionId) (doing : Session) (core : IsCore old) (can : CanChange old s doing) (changes : Changes old new s doing) where
+module _ (old new : State) (s : SessionId) (doing : Session) (core : IsCore old) (can : CanChange old s doing false) (changes : Changes old new s doing) where
   abbrev stored : Stored
   stored = given_stored old.stored s (keys_in doing.stage)
 
   -- the session that begins anew, where the book has this length
   abbrev anew : ℕ → Session
-  anew long = record doing { since = long; stage = start }
+  anew long = record doing { is_first = false; used_hints = false; since = long; stage = start }
 
   -- once it has given its locks back
   abbrev given : State
@@ -66,7 +67,7 @@ module _ (old new : State) (s : SessionId) (doing : Session) (core : IsCore old)
 
   -- another has committed a change since the attempt began to read
   changed : list_any (is_change_beside s) (drop doing.since old.stored.notes) ≡ true
-  changed = true_from_ne_false (list_any (is_change_beside s) (drop doing.since old.stored.notes)) (λ quiet. can.differs (core.found s doing can.runs.there quiet))
+  changed = true_from_ne_false (list_any (is_change_beside s) (drop doing.since old.stored.notes)) (λ quiet. can.differs (read_as_found old.stored core.stored doing.stage (core.found s doing can.runs.there quiet)))
 
   changed_still : list_any (is_change_beside s) (drop doing.since stored.notes) ≡ true
   changed_still = given_notes (λ (notes : List Note). list_any (is_change_beside s) (drop doing.since notes) ≡ true) old.stored s (keys_in doing.stage) changed
@@ -88,12 +89,12 @@ module _ (old new : State) (s : SessionId) (doing : Session) (core : IsCore old)
   met = met_state given s (Changed doing.since)
 
   met_is : IsCore met
-  met_is = met_core given s (Changed doing.since) given_is (record { doing = anew (length stored.notes); runs = record { there = there_given; running = refl }; cause_there = found; goes_on = refl })
+  met_is = met_core given s (Changed doing.since) given_is (record { doing = anew (length stored.notes); runs = record { there = there_given; running = refl }; cause_there = found; goes_on = refl; within = refl })
 
   moved_is : IsCore (moved_by met s (anew (length met.stored.notes)))
   moved_is = moved_core met s (anew (length stored.notes)) (anew (length met.stored.notes)) met_is (record {
     runs = record { there = there_given; running = refl };
-    goes = (([], refl), ([], refl));
+    goes = record { again = []; found = []; missed = []; places = ([], refl); rows = refl; gaps = refl; before = tt; there = tt; gone = tt; one = omega arith };
     same = refl;
     trail = refl;
     reading = start_is_bare.reading met.stored.inodes met.stored.quotas (held met.stored.notes) s (anew (length met.stored.notes));
@@ -110,5 +111,5 @@ module _ (old new : State) (s : SessionId) (doing : Session) (core : IsCore old)
   differs_at = subst IsCore (sym same) moved_is
 
 -- all that the core keeps, once a session has met a change of what it had found
-pub changed_core : (old new : State) (s : SessionId) (doing : Session) → IsCore old → CanChange old s doing → Changes old new s doing → IsCore new
+pub changed_core : (old new : State) (s : SessionId) (doing : Session) → IsCore old → CanChange old s doing false → Changes old new s doing → IsCore new
 changed_core old new s doing core can changes = differs_at old new s doing core can changes

@@ -32,6 +32,7 @@ use Rattle.db_state.proofs.LockPartLaws.{book_gave, plans_with}
 use Rattle.db_state.proofs.SessionMapLaws.{with_all}
 use Rattle.db_state.proofs.BookTellLaws.{opened_on, found_on, length-push}
 use Rattle.db_state.proofs.BookLaws.{book-push, was_opened}
+use Rattle.db_state.proofs.OldRowsLaws.{IsOld, HasOldRows}
 use Rattle.db_state.proofs.SeatTellLaws.{there_with, told_still, told_on}
 use Rattle.db_state.proofs.StageLaws.{reading_on}
 use Rattle.db_state.proofs.ReadsHoldLaws.{leaves_others}
@@ -79,7 +80,7 @@ module _ (old : State) (s : SessionId) (doing : Session) (stage : Stage) (locks 
 
   -- the session that begins anew or ends, where the book has this length
   abbrev pub anew : ℕ → Session
-  anew long = record doing { since = long; stage = stage }
+  anew long = record doing { is_first = false; used_hints = false; since = long; stage = stage }
 
   -- all of it with this book and the session begun anew
   abbrev pub given_state : Stored → State
@@ -107,6 +108,7 @@ module _ (old : State) (s : SessionId) (doing : Session) (stage : Stage) (locks 
         reads = with_all (λ t session. IsReading old.stored.inodes old.stored.quotas (held old.stored.notes) t session session.stage) old.sessions s (anew (length old.stored.notes))
             (bare.reading old.stored.inodes old.stored.quotas (held old.stored.notes) s (anew (length old.stored.notes))) (λ t other apart e. core.reads t other e);
         found = with_all (IsAsFound old.stored.inodes old.stored.notes) old.sessions s (anew (length old.stored.notes)) (found_anew old.stored) (λ t other apart e. core.found t other e);
+        old = with_all (HasOldRows old.stored.next) old.sessions s (anew (length old.stored.notes)) (subst (AllByRecursion (IsOld old.stored.next)) (sym bare.rows) tt) (λ t other apart e. core.old t other e);
         opened = with_all (IsOpened old.stored.notes) old.sessions s (anew (length old.stored.notes))
             (record { opening = mine.opening; place = mine.place; since = (since_long, le_self (length old.stored.notes)); running = λ r. mine.running runs.running; valid = mine.valid })
             (λ t other apart e. core.opened t other e);
@@ -142,6 +144,7 @@ module _ (old : State) (s : SessionId) (doing : Session) (stage : Stage) (locks 
             other.stage (core.reads t other e));
         found = with_all (IsAsFound old.stored.inodes notes) old.sessions s (anew (length notes)) (found_anew (noted old.stored (Gave s)))
             (λ t other apart e. found_on old.stored.inodes old.stored.inodes old.stored.notes (Gave s) t other (core.opened t other e).since.1 (λ quiet. refl) (core.found t other e));
+        old = with_all (HasOldRows old.stored.next) old.sessions s (anew (length notes)) (subst (AllByRecursion (IsOld old.stored.next)) (sym bare.rows) tt) (λ t other apart e. core.old t other e);
         opened = with_all (IsOpened notes) old.sessions s (anew (length notes))
             (opened_anew notes long)
             (λ t other apart e. opened_on old.stored.notes (Gave s) t other (λ r. refl) (core.opened t other e));
@@ -163,6 +166,7 @@ module _ (old : State) (s : SessionId) (doing : Session) (stage : Stage) (locks 
           in_order = tt;
           never_falls = tt;
           last = tt;
+          within = refl;
           held = tt;
         }) core.book;
       }

@@ -1,4 +1,6 @@
+pub mod AllLemmas
 pub mod AnswerLaws
+pub mod AsFoundLaws
 pub mod BookLaws
 pub mod BookTellLaws
 pub mod ChainLaws
@@ -21,7 +23,9 @@ pub mod ListingLemmas
 pub mod LockPartLaws
 pub mod MetLaws
 pub mod MoveLaws
+pub mod MoveSampleLemmas
 pub mod NumberLaws
+pub mod OldRowsLaws
 pub mod OpenLaws
 pub mod OpeningCoreLaws
 pub mod OpeningLaws

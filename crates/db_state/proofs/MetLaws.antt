@@ -25,6 +25,7 @@ use Rattle.db_state.specs.Stages.{is_over, next_key}
 use Rattle.db_state.specs.Core.{IsCore}
 use Rattle.db_state.specs.LockParts.{same_mode, is_lock, AreOfBook}
 use Rattle.db_state.specs.Steps.{noted, IsRunning, met_by, CanMeet}
+use Rattle.db_state.specs.BookParts.{is_beyond}
 use Rattle.db_state.specs.SessionParts.{AreReading}
 use Rattle.db_state.proofs.ConsistentLaws.{noted_consistent}
 use Rattle.db_state.proofs.LockPartLaws.{book_left}
@@ -35,12 +36,13 @@ use Rattle.db_state.proofs.TookLaws.{mode_itself, one_mode, both_true}
 
 -- ---- whatever was met
 
--- the session runs, and the cause was there; it isn't that its operation was lost
+-- the session runs, and the cause was there; it isn't of an operation
 pub record Meets (state : State) (s : SessionId) (cause : Cause) : Type 0 where
   pub doing : Session
   pub runs : IsRunning state s doing
   pub cause_there : Found state.stored.notes s cause
   pub goes_on : is_lost cause ≡ false
+  pub within : is_beyond (Met s cause) ≡ false
 
 -- all of it once a session has met this
 abbrev pub met_state : State → SessionId → Cause → State
@@ -63,6 +65,7 @@ met_core old s cause core can =
       plans = core.plans;
       reads = subst (λ (locks : List Taking). AreReading old.stored.inodes old.stored.quotas locks old.sessions) (sym same) core.reads;
       found = λ t session e. found_on old.stored.inodes old.stored.inodes old.stored.notes (Met s cause) t session (core.opened t session e).since.1 (λ quiet. refl) (core.found t session e);
+      old = core.old;
       opened = λ t session e. opened_on old.stored.notes (Met s cause) t session (λ runs. lost_or_not s t cause can.goes_on) (core.opened t session e);
       seats = record {
         each = core.seats.each;
@@ -82,6 +85,7 @@ met_core old s cause core can =
         in_order = tt;
         never_falls = tt;
         last = tt;
+        within = can.within;
         held = tt;
       }) core.book;
     }
@@ -133,4 +137,5 @@ met_lock_core old s doing k h core can = met_core old s (Locked k.0 k.1 h) core 
   runs = record { there = can.there; running = asks_runs doing.stage k can.next };
   cause_there = lock_found old.locks old.stored.notes s k h core.locks can.busy;
   goes_on = refl;
+  within = refl;
 })

@@ -17,6 +17,7 @@ use Rattle.db_state.specs.SessionParts.{IsReading, IsAsFound, IsOpened}
 use Rattle.db_state.specs.BookParts.{IsSeated}
 use Rattle.db_state.proofs.LockPartLaws.{plans_with}
 use Rattle.db_state.proofs.SessionMapLaws.{with_all}
+use Rattle.db_state.proofs.OldRowsLaws.{HasOldRows, old_on}
 use Rattle.db_state.proofs.SeatTellLaws.{there_with, told_still}
 use Rattle.db_state.specs.Stored.{Inodes}
 use Rattle.db_state.specs.declared.session.Stage.{Stage}
@@ -39,16 +40,21 @@ goes_on inodes (Lock places keys taken) new goes = absurd goes
 goes_on inodes (Read places keys) (Resolve places' found) goes = absurd goes
 goes_on inodes (Read places keys) (Lock places' keys' taken) goes = absurd goes
 goes_on inodes (Read places keys) (Read places' keys') goes = absurd goes
-goes_on inodes (Read places keys) (Reread reads keys') goes = (goes.1, refl)
-goes_on inodes (Read places keys) (Commit reads keys') goes = (goes.3, refl)
+goes_on inodes (Read places keys) (Reread reads keys') goes = (goes.3, refl)
+goes_on inodes (Read places keys) (Commit reads keys') goes = (goes.2, refl)
 goes_on inodes (Read places keys) Answered goes = absurd goes
 goes_on inodes (Reread reads keys) (Resolve places found) goes = absurd goes
 goes_on inodes (Reread reads keys) (Lock places keys' taken) goes = absurd goes
 goes_on inodes (Reread reads keys) (Read places keys') goes = absurd goes
-goes_on inodes (Reread reads keys) (Reread reads' keys') goes = (goes.1, refl)
-goes_on inodes (Reread reads keys) (Commit reads' keys') goes = (goes.1, refl)
+goes_on inodes (Reread reads keys) (Reread reads' keys') goes = (goes.2, refl)
+goes_on inodes (Reread reads keys) (Commit reads' keys') goes = (goes.2, refl)
 goes_on inodes (Reread reads keys) Answered goes = absurd goes
-goes_on inodes (Commit reads keys) new goes = absurd goes
+goes_on inodes (Commit reads keys) (Resolve places found) goes = absurd goes
+goes_on inodes (Commit reads keys) (Lock places keys' taken) goes = absurd goes
+goes_on inodes (Commit reads keys) (Read places keys') goes = absurd goes
+goes_on inodes (Commit reads keys) (Reread reads' keys') goes = absurd goes
+goes_on inodes (Commit reads keys) (Commit reads' keys') goes = (goes.1, refl)
+goes_on inodes (Commit reads keys) Answered goes = absurd goes
 goes_on inodes Answered new goes = absurd goes
 
 -- it began to read after it was opened, and no later than now
@@ -69,6 +75,8 @@ moved_core old s was new core can =
       plans = plans_with old.locks old.locks old.sessions s new (keys_in new.stage) refl (λ t key. by_test t key (t.0 == s.0) refl) core.plans;
       reads = with_all (λ t session. IsReading old.stored.inodes old.stored.quotas (held old.stored.notes) t session session.stage) old.sessions s new can.reading (λ t other apart e. core.reads t other e);
       found = with_all (IsAsFound old.stored.inodes old.stored.notes) old.sessions s new can.found (λ t other apart e. core.found t other e);
+      old = with_all (HasOldRows old.stored.next) old.sessions s new
+          (old_on old.stored.inodes old.stored.next core.stored.tree was.stage new.stage can.goes (core.old s was can.runs.there)) (λ t other apart e. core.old t other e);
       opened = with_all (IsOpened old.stored.notes) old.sessions s new
           (subst (IsOpened old.stored.notes s) (sym can.same) (record { opening = here.opening; place = here.place; since = since_fits was.stage was.opened was.since (length old.stored.notes) here.since; running = λ r. here.running can.runs.running; valid = here.valid }))
           (λ t other apart e. core.opened t other e);

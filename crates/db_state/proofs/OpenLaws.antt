@@ -44,6 +44,7 @@ use Rattle.db_state.proofs.SeatLaws.{get-set_same, get-set_other, all-set, all-a
 use Rattle.db_state.proofs.SeatTellLaws.{any_at, IsThere, last_there, none_past_next}
 use Rattle.db_state.proofs.BookTellLaws.{opened_on, found_on, any-push, position-new, length-push}
 use Rattle.db_state.proofs.BookLaws.{book-push}
+use Rattle.db_state.proofs.OldRowsLaws.{HasOldRows}
 use Rattle.db_state.proofs.GiveLaws.{start_is_bare}
 
 -- ---- nothing ends a session that isn't opened yet
@@ -274,6 +275,7 @@ module _ (old : State) (client : ClientNo) (number : ℕ) (call : Call) (node : 
     found = with_all (IsAsFound old.stored.inodes notes) left s fresh (λ quiet. (tt, tt))
         (λ t other apart e. let in_old = (left_there old.sessions (seat_of old.seats client).last t other e).0 in
         found_on old.stored.inodes old.stored.inodes old.stored.notes (Open (next_session old) client number node) t other (core.opened t other in_old).since.1 (λ quiet. refl) (core.found t other in_old));
+    old = with_all (HasOldRows old.stored.next) left s fresh tt (λ t other apart e. core.old t other (left_there old.sessions (seat_of old.seats client).last t other e).0);
     opened = with_all (IsOpened notes) left s fresh fresh_opened
         (λ t other apart e. let in_old = (left_there old.sessions (seat_of old.seats client).last t other e).0 in
         opened_on old.stored.notes (Open (next_session old) client number node) t other (λ r. refl) (core.opened t other in_old));
@@ -297,6 +299,7 @@ module _ (old : State) (client : ClientNo) (number : ℕ) (call : Call) (node : 
       in_order = tt;
       never_falls = none_opened_after client was.begun number old.stored.notes rises was_told.opens;
       last = tt;
+      within = refl;
       held = tt;
     }) core.book;
   }
@@ -356,6 +359,7 @@ module _ (old : State) (client : ClientNo) (number : ℕ) (call : Call) (node : 
     plans = core.plans;
     reads = core.reads;
     found = core.found;
+    old = core.old;
     opened = core.opened;
     seats = record {
       each = length-set old.seats client.0 counted ∙ core.seats.each;

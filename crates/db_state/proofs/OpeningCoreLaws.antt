@@ -28,7 +28,7 @@ use Rattle.db_state.proofs.ConsistentLaws.{opening_consistent}
 pub no_lock : (s : SessionId) (key : Key) → mode_of map.empty s key ≡ None
 no_lock s key = map.get-empty {X = Mode} held_cmp (s.0, key)
 
-no_session : (s : SessionId) → map.get {R = nat_cmp} (map.empty {X = Session}) s.0 ≡ None
+pub no_session : (s : SessionId) → map.get {R = nat_cmp} (map.empty {X = Session}) s.0 ≡ None
 no_session s = map.get-empty {X = Session} nat_cmp s.0
 
 seats_there : (users : List (List ℕ)) → length (list_map (λ (user : List ℕ). empty_seat) users) ≡ length users
@@ -51,6 +51,7 @@ opening_core settings = record {
   plans = λ s key. no_lock s key ∙ ap (λ (o : Option Session). planned_mode (keys_of_session o) key) (sym (no_session s));
   reads = λ s doing e. absurd (let none = no_session s in cc);
   found = λ s doing e. absurd (let none = no_session s in cc);
+  old = λ s doing e. absurd (let none = no_session s in cc);
   opened = λ s doing e. absurd (let none = no_session s in cc);
   seats = record {
     each = seats_there settings.users;
@@ -66,6 +67,7 @@ opening_core settings = record {
     in_order = Each-none InOrderAt;
     never_falls = Each-none NeverFallsAt;
     last = Each-none IsLastAt;
+    within = refl;
     held = Each-none (AnswersHeldAt settings.users);
   };
 }

@@ -2,6 +2,7 @@
 use Rattle.std.proofs.Common.{◌≡◌, ℕ, ◌+◌, ◌<◌, Bool, true, false, ◌&&◌, ◌==◌, cond, List, [], ◌∷◌, ◌++◌, if◌then◌else◌, ◌≢◌, length, take, slice_get, Option, Some, None, arith, refl, sym, ap, subst, ◌∙◌, eqb-true, inl}
 use Rattle.std.proofs.lemmas.Bool.{eqb-false}
 use Rattle.std.proofs.Math.Seq.{take-length}
+use Rattle.std.specs.List.{AllByRecursion}
 use Rattle.std.specs.FinMap as map
 use Rattle.hops_base.specs.declared.ids.SessionId.{SessionId}
 use Rattle.hops_base.specs.declared.ids.Mode.{Mode}
@@ -19,7 +20,7 @@ use Rattle.db_state.specs.declared.session.Stage.TheVariants.{Resolve, Lock, Rea
 use Rattle.db_state.specs.declared.view.Place.{Place}
 use Rattle.hops_base.specs.Roomy.{Roomy}
 use Rattle.db_state.specs.State.{State}
-use Rattle.db_state.specs.Stages.{is_over, keys_in, next_key}
+use Rattle.db_state.specs.Stages.{is_over, keys_in, next_key, rows_in}
 use Rattle.db_state.specs.Core.{IsCore}
 use Rattle.db_state.specs.Steps.{with_session, taken_by, one_more, CanTake}
 use Rattle.db_state.specs.LockParts.{keys_of_session}
@@ -30,6 +31,7 @@ use Rattle.db_state.proofs.LockPartLaws.{mode_of-put, book_took, plans_with}
 use Rattle.db_state.proofs.SessionMapLaws.{with_all}
 use Rattle.db_state.proofs.BookTellLaws.{opened_on, found_on}
 use Rattle.db_state.proofs.BookLaws.{book-push, was_opened}
+use Rattle.db_state.proofs.OldRowsLaws.{IsOld, HasOldRows}
 use Rattle.db_state.proofs.SeatTellLaws.{there_with, told_on}
 use Rattle.db_state.proofs.StageLaws.{reading_on}
 use Rattle.db_state.proofs.ReadsHoldLaws.{leaves_others}
@@ -112,6 +114,14 @@ module _ (old : State) (s : SessionId) (doing : Session) (k : Key × Mode) (core
       go true was = was
       go false was = was
 
+  old_after : HasOldRows old.stored.next s after
+  old_after = subst (λ (x : Stage). AllByRecursion (IsOld old.stored.next) (rows_in x)) (sym stage_after)
+      (go (at.taken + 1 == length at.keys) (subst (λ (x : Stage). AllByRecursion (IsOld old.stored.next) (rows_in x)) at.is (core.old s doing can.there)))
+    where
+      go : (b : Bool) → AllByRecursion (IsOld old.stored.next) (rows_in (Lock at.places at.keys at.taken)) → AllByRecursion (IsOld old.stored.next) (rows_in (further b))
+      go true was = was
+      go false was = was
+
   opened_after : IsOpened old.stored.notes s after
   opened_after = record { opening = mine.opening; place = mine.place; since = mine.since; running = λ r. mine.running runs; valid = mine.valid }
 
@@ -133,6 +143,7 @@ module _ (old : State) (s : SessionId) (doing : Session) (k : Key × Mode) (core
     found = with_all (IsAsFound old.stored.inodes (old.stored.notes ++ Took s k.0 k.1 ∷ [])) old.sessions s after
         (found_on old.stored.inodes old.stored.inodes old.stored.notes (Took s k.0 k.1) s after mine.since.1 (λ quiet. refl) found_after)
         (λ t other apart e. found_on old.stored.inodes old.stored.inodes old.stored.notes (Took s k.0 k.1) t other (core.opened t other e).since.1 (λ quiet. refl) (core.found t other e));
+    old = with_all (HasOldRows old.stored.next) old.sessions s after old_after (λ t other apart e. core.old t other e);
     opened = with_all (IsOpened (old.stored.notes ++ Took s k.0 k.1 ∷ [])) old.sessions s after
         (opened_on old.stored.notes (Took s k.0 k.1) s after (λ r. refl) opened_after)
         (λ t other apart e. opened_on old.stored.notes (Took s k.0 k.1) t other (λ r. refl) (core.opened t other e));
@@ -157,6 +168,7 @@ module _ (old : State) (s : SessionId) (doing : Session) (k : Key × Mode) (core
       in_order = tt;
       never_falls = tt;
       last = tt;
+      within = refl;
       held = tt;
     }) core.book;
   }

@@ -8,7 +8,7 @@ use Rattle.hops_base.specs.Path.{most_path_names}
 use Rattle.name_space.specs.Call.{is_valid}
 use Rattle.name_space.specs.Script.{most_calls}
 use Rattle.commit_log.specs.declared.note.Note.{Note}
-use Rattle.commit_log.specs.declared.note.Note.TheVariants.{Open, Did}
+use Rattle.commit_log.specs.declared.note.Note.TheVariants.{Open, Did, Wrote, Cut, Met, Gone}
 use Rattle.commit_log.specs.Along.{Each}
 use Rattle.commit_log.specs.Terms.{Terms}
 use Rattle.commit_log.specs.Orderly.{OrderlyBy}
@@ -21,6 +21,7 @@ use Rattle.db_state.specs.Settings.{Settings}
 use Rattle.db_state.specs.Stages.{is_over}
 use Rattle.db_state.specs.State.{Sessions}
 use Rattle.std.specs.Option.{IsSomeAnd}
+use Rattle.commit_log.specs.declared.note.Cause.TheVariants.{Flagged, Lost}
 
 -- the terms of a run with these settings: its clients may make any valid call, at its namenodes
 abbrev pub terms_in : Settings → Terms
@@ -83,8 +84,18 @@ abbrev pub IsLastAt : List Note → Note → Type 0
 IsLastAt before (Did s client number call reads reply) = list_any (opens_past client (Some s)) before ≡ false
 IsLastAt before note = ⊤
 
+-- the note is of an operation, or of a namenode that is gone: of what isn't built yet
+abbrev pub is_beyond : Note → Bool
+is_beyond (Wrote s work) = true
+is_beyond (Cut op path gone) = true
+is_beyond (Met s (Flagged op)) = true
+is_beyond (Met s (Lost op)) = true
+is_beyond (Gone node ended) = true
+is_beyond note = false
+
 -- the book is orderly and explained: what was met was there, locks conflict with none and rise, a client's call numbers never
--- fall, whoever answers is its client's last session, and it holds the keys of its paths
+-- fall, whoever answers is its client's last session, and it holds the keys of its paths; and there is no operation in it, and no
+-- namenode that is gone
 pub record IsBook (settings : Settings) (notes : List Note) : Type 0 where
   pub orderly : OrderlyBy (terms_in settings) notes
   pub sound : Sound notes
@@ -92,4 +103,5 @@ pub record IsBook (settings : Settings) (notes : List Note) : Type 0 where
   pub in_order : Each InOrderAt notes
   pub never_falls : Each NeverFallsAt notes
   pub last : Each IsLastAt notes
+  pub within : list_any is_beyond notes ≡ false
   pub held : AnswersHeld settings.users notes

@@ -1,5 +1,5 @@
 -- What a caller of the whole must show of a session, and what it is told. This project's own.
-use Rattle.std.specs.Prelude.{◌≡◌, List, Option, Some, option_and_then}
+use Rattle.std.specs.Prelude.{◌≡◌, Bool, List, Option, Some, option_and_then}
 use Rattle.std.specs.FinMap as map
 use Rattle.hops_base.specs.declared.ids.SessionId.{SessionId}
 use Rattle.hops_base.specs.declared.ids.Mode.{Mode}
@@ -37,9 +37,9 @@ Takes old s answer new = (doing : Session) (k : Key × Mode) → map.get old.ses
 abbrev pub IsKeptAway : State → SessionId → SessionId → Type 0
 IsKeptAway state s h = (doing : Session) × (k : Key × Mode) × CanMeet state s doing k h
 
--- the session runs, and what it has found was changed
-abbrev pub IsBehind : State → SessionId → Type 0
-IsBehind state s = (doing : Session) × CanChange state s doing
+-- the session runs, and what it reads next isn't as it was found, in an attempt that has used hints or hasn't
+abbrev pub IsBehind : State → SessionId → Bool → Type 0
+IsBehind state s hinted = (doing : Session) × CanChange state s doing hinted
 
 -- the session may answer so, with these rows written
 abbrev pub IsAnswer : State → SessionId → List (Key × Option Row) → Reply → Type 0

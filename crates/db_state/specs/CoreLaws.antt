@@ -1,6 +1,6 @@
 -- Laws of all that the core keeps: each kind of change keeps it, and no sessions wait for each other in a circle. This
 -- project's own.
-use Rattle.std.specs.Prelude.{ℕ, List, [], ◌∷◌, ◌++◌, Option}
+use Rattle.std.specs.Prelude.{ℕ, List, [], ◌∷◌, ◌++◌, Option, false}
 use Rattle.hops_base.specs.declared.ids.ClientNo.{ClientNo}
 use Rattle.hops_base.specs.declared.ids.NodeNo.{NodeNo}
 use Rattle.hops_base.specs.declared.ids.SessionId.{SessionId}
@@ -60,7 +60,7 @@ EndingKeepsIt =
 
 -- it holds once a session has met a change of what it had found, and begins anew
 abbrev pub MeetingAChangeKeepsIt : Type 0
-MeetingAChangeKeepsIt = (old new : State) (s : SessionId) (doing : Session) → IsCore old → CanChange old s doing → Changes old new s doing → IsCore new
+MeetingAChangeKeepsIt = (old new : State) (s : SessionId) (doing : Session) → IsCore old → CanChange old s doing false → Changes old new s doing → IsCore new
 
 -- it holds once a session has answered
 abbrev pub AnsweringKeepsIt : Type 0

@@ -1,5 +1,5 @@
 -- Samples: seats, locks, sessions and states of a run of one client. Nothing but the worked examples rests on them.
-use Rattle.std.specs.Prelude.{ℕ, List, [], ◌∷◌, Option, Some}
+use Rattle.std.specs.Prelude.{ℕ, true, false, List, [], ◌∷◌, Option, Some}
 use Rattle.std.specs.FinMap as map
 use Rattle.hops_base.specs.Ids.{session, client, node}
 use Rattle.hops_base.specs.declared.ids.SessionId.{SessionId}
@@ -81,15 +81,18 @@ asking locks =
 abbrev pub took_d : List Note
 took_d = opens 1 0 1 0 ∷ takes 1 d_key ∷ []
 
--- the first session, once it holds that key
+-- the first session, which has used hints, once it holds that key
 abbrev pub holder : Session
-holder = first_at (with_all (alone d_key))
+holder = record (first_at (with_all (alone d_key))) { used_hints = true }
 
 -- the state in which it holds that key
 abbrev pub holding : State
 holding = state_with took_d (one_lock 1 d_key Exclusive) (seat_with 1 0 (Some (session 1))) (alone_in holder)
 
--- the state in which it has begun anew where the book had this length, with this book and these locks
-abbrev pub anew : List Note → Locks → ℕ → State
-anew notes locks since = state_with notes locks (seat_with 1 0 (Some (session 1)))
-    (map.insert (alone_in holder) 1 (record (first_at start) { since = since }))
+-- it has begun anew, where the book had this length
+abbrev pub begun_anew : ℕ → Session
+begun_anew since = record (first_at start) { is_first = false; since = since }
+
+-- the state in which it has become this, with this book and these locks
+abbrev pub anew : List Note → Locks → Session → State
+anew notes locks doing = state_with notes locks (seat_with 1 0 (Some (session 1))) (map.insert (alone_in holder) 1 doing)

@@ -104,6 +104,10 @@ IsAsFound inodes notes s session = list_any (is_change_beside s) (drop session.s
 abbrev pub AreAsFound : Inodes → List Note → Sessions → Type 0
 AreAsFound inodes notes sessions = (s : SessionId) (session : Session) → map.get sessions s.0 ≡ Some session → IsAsFound inodes notes s session
 
+-- each row that a session has found has an id below the next free one, so a new row is under none of the keys that it locks
+abbrev pub AreOld : ℕ → Sessions → Type 0
+AreOld next sessions = (s : SessionId) (session : Session) → map.get sessions s.0 ≡ Some session → AllByRecursion (λ (r : Key × Inode). r.1.id.0 < next) (rows_in session.stage)
+
 -- ---- how the book tells of a session
 
 -- the book has its opening, at its place and before its attempt began to read; and where it is open, nothing in the book has

@@ -1,5 +1,5 @@
 -- The kinds of change of all that the core keeps, and what each must show. This project's own.
-use Rattle.std.specs.Prelude.{◌≡◌, ℕ, ◌+◌, ◌<◌, ◌≤◌, true, false, ◌==◌, if◌then◌else◌, List, [], ◌∷◌, length, Option, Some, None, IfSome, slice_get, slice_set, unwrap_or}
+use Rattle.std.specs.Prelude.{◌≡◌, ℕ, ◌+◌, ◌<◌, ◌≤◌, true, false, ◌==◌, if◌then◌else◌, List, [], ◌∷◌, length, Option, Some, None, IfSome, slice_get, slice_set, unwrap_or, Bool}
 use Rattle.std.specs.List.{AllByRecursion}
 use Rattle.std.specs.FinMap as map
 use Rattle.hops_base.specs.Ids.{session}
@@ -32,9 +32,9 @@ use Rattle.db_state.specs.Locked.{MayWrite}
 use Rattle.db_state.specs.Effects.{KeepsRows}
 use Rattle.db_state.specs.Reads.{Reads, locked_by}
 use Rattle.db_state.specs.Stages.{is_over, keys_in, next_key}
-use Rattle.db_state.specs.SessionParts.{asked_in, IsReading, IsStillFound, IsAsFound}
+use Rattle.db_state.specs.SessionParts.{asked_in, IsReading, IsAsFound}
 use Rattle.db_state.specs.BookParts.{most_new_ids}
-use Rattle.db_state.specs.Moves.{GoesOn, since_after, reads_after, IsTrail}
+use Rattle.db_state.specs.Moves.{GoesOn, IsReadAsFound, since_after, reads_after, IsTrail}
 use Rattle.commit_log.specs.Locks.{held}
 
 -- one note more
@@ -62,7 +62,7 @@ start = Resolve no_items no_items
 -- a session as it is opened, by the note of this number
 abbrev pub new_session : ClientNo → ℕ → Call → NodeNo → ℕ → Session
 new_session client number call node opened =
-    record { client = client; number = number; call = call; node = node; opened = opened; since = opened + 1; reads = 0; trail = no_items; stage = start }
+    record { client = client; number = number; call = call; node = node; opened = opened; since = opened + 1; reads = 0; is_first = true; used_hints = false; trail = no_items; stage = start }
 
 -- the sessions without a client's last one
 abbrev pub without_last : Sessions → Option SessionId → Sessions
@@ -163,19 +163,20 @@ pub record Gives (old new : State) (s : SessionId) (doing : Session) (stage : St
   pub stored : new.stored ≡ given_stored old.stored s (keys_in doing.stage)
   pub locks : IsGivenBack s old.locks new.locks
   pub seats : new.seats ≡ old.seats
-  pub sessions : new.sessions ≡ with_session old.sessions s (record doing { since = length new.stored.notes; stage = stage })
+  pub sessions : new.sessions ≡ with_session old.sessions s (record doing { is_first = false; used_hints = false; since = length new.stored.notes; stage = stage })
 
 -- a session gives back what it holds, tells that what it had found was changed since its attempt began to read, and begins anew
 pub record Changes (old new : State) (s : SessionId) (doing : Session) : Type 0 where
   pub stored : new.stored ≡ noted (given_stored old.stored s (keys_in doing.stage)) (Met s (Changed doing.since))
   pub locks : IsGivenBack s old.locks new.locks
   pub seats : new.seats ≡ old.seats
-  pub sessions : new.sessions ≡ with_session old.sessions s (record doing { since = length new.stored.notes; stage = start })
+  pub sessions : new.sessions ≡ with_session old.sessions s (record doing { is_first = false; used_hints = false; since = length new.stored.notes; stage = start })
 
--- the session runs, and what it has found isn't as it was found
-pub record CanChange (state : State) (s : SessionId) (doing : Session) : Type 0 where
+-- the session runs, and what it reads next isn't as it was found; its attempt may have used hints, or not
+pub record CanChange (state : State) (s : SessionId) (doing : Session) (hinted : Bool) : Type 0 where
   pub runs : IsRunning state s doing
-  pub differs : IsStillFound state.stored.inodes doing.stage → ⊥
+  pub differs : IsReadAsFound state.stored doing.stage → ⊥
+  pub by_hints : doing.used_hints ≡ hinted
 
 -- ---- a session answers
 

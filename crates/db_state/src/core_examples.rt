@@ -4,18 +4,19 @@ ghost use Rattle.std.specs.Prelude.{◌≡◌, true, false, [], ◌∷◌, ◌++
 ghost use Rattle.std.specs.FinMap as map;
 ghost use Rattle.hops_base.specs.Ids.{session, client, node};
 ghost use Rattle.hops_base.specs.declared.ids.Mode.TheVariants.{Shared, Exclusive};
-ghost use Rattle.commit_log.specs.Samples.{d_x, d_key, make, look, yes, opens, shares, gives, does, meets_change};
+ghost use Rattle.commit_log.specs.Samples.{d_x, d_key, make, look, yes, opens, shares, takes, gives, does, meets_change, ann_flags, batches, reclaims, e_is_cut, meets_flag, meets_loss, wants, stops, evicts};
 ghost use Rattle.db_state.specs.declared.session.Stage.TheVariants.{Answered};
 ghost use Rattle.db_state.specs.Stored.{root_key, root_row};
 ghost use Rattle.db_state.specs.State.{empty_seat};
-ghost use Rattle.db_state.specs.BookParts.{opens_past, NeverFallsAt, IsLastAt, IsSeat, IsSeated};
+ghost use Rattle.db_state.specs.BookParts.{is_beyond, opens_past, NeverFallsAt, IsLastAt, IsSeat, IsSeated};
 ghost use Rattle.db_state.specs.LockParts.{AreOfBook};
-ghost use Rattle.db_state.specs.SessionParts.{LeadAlong, AreQuotasSeen};
+ghost use Rattle.db_state.specs.SessionParts.{LeadAlong, AreQuotasSeen, AreOld};
 ghost use Rattle.db_state.specs.Steps.{start, new_session, next_session, opened_by, HasNoOpen, one_more, Gives, Changes};
 ghost use Rattle.db_state.specs.Waits.{Waits};
-ghost use Rattle.db_state.specs.ReadSamples.{x_key, d_row, x_row, with_mode, with_quota, names_for_d, gap, reads, reads_with, alone};
+ghost use Rattle.db_state.specs.ReadSamples.{x_key, d_row, x_row, with_mode, with_quota, names_for_d, whole, gap, reads, reads_with, alone};
 ghost use Rattle.db_state.specs.CoreSamples.{seat_with, first_at, alone_in, d_and_x, at_key, with_all, one_lock, d_quota};
-ghost use Rattle.db_state.specs.CoreSamples.{state_with, has_answered, asking, took_d, holder, holding, anew};
+ghost use Rattle.db_state.specs.CoreSamples.{state_with, has_answered, asking, took_d, holder, holding, begun_anew, anew};
+ghost use Rattle.db_state.specs.MoveSamples.{finds, down_to, has_whole};
 
 /// The number of a client's next call is none before that of an earlier one.
 pub fn numbers_of_calls_never_fall()
@@ -121,12 +122,50 @@ pub fn clients_have_one_open_session()
 /// of that too.
 #[tactic(auto, unfolding(hops_base::specs::Key::key_cmp))]
 pub fn sessions_give_back_and_begin_anew()
-    ensures given { Gives holding (anew (took_d ++ gives 1 ∷ []) map.empty 3) (session 1) holder start }
-    ensures no_note { ¬ Gives holding (anew took_d map.empty 2) (session 1) holder start }
-    ensures still_held { ¬ Gives holding (anew (took_d ++ gives 1 ∷ []) (one_lock 1 d_key Exclusive) 3) (session 1)
+    ensures given { Gives holding (anew (took_d ++ gives 1 ∷ []) map.empty (begun_anew 3)) (session 1) holder start }
+    ensures no_note { ¬ Gives holding (anew took_d map.empty (begun_anew 2)) (session 1) holder start }
+    ensures still_held { ¬ Gives holding (anew (took_d ++ gives 1 ∷ []) (one_lock 1 d_key Exclusive) (begun_anew 3))
+        (session 1) holder start }
+    ensures since_before { ¬ Gives holding (anew (took_d ++ gives 1 ∷ []) map.empty (begun_anew 2)) (session 1)
         holder start }
-    ensures since_before { ¬ Gives holding (anew (took_d ++ gives 1 ∷ []) map.empty 2) (session 1) holder start }
-    ensures changed { Changes holding (anew (took_d ++ gives 1 ∷ meets_change 1 1 ∷ []) map.empty 4) (session 1)
-        holder }
-    ensures not_told { ¬ Changes holding (anew (took_d ++ gives 1 ∷ []) map.empty 3) (session 1) holder }
+    ensures still_first { ¬ Gives holding
+        (anew (took_d ++ gives 1 ∷ []) map.empty (record (begun_anew 3) { is_first = true })) (session 1) holder start }
+    ensures still_hinted { ¬ Gives holding
+        (anew (took_d ++ gives 1 ∷ []) map.empty (record (begun_anew 3) { used_hints = true })) (session 1) holder start }
+    ensures changed { Changes holding
+        (anew (took_d ++ gives 1 ∷ meets_change 1 1 ∷ []) map.empty (begun_anew 4)) (session 1) holder }
+    ensures not_told { ¬ Changes holding (anew (took_d ++ gives 1 ∷ []) map.empty (begun_anew 3)) (session 1) holder }
+    ensures changed_but_first { ¬ Changes holding
+        (anew (took_d ++ gives 1 ∷ meets_change 1 1 ∷ []) map.empty (record (begun_anew 4) { is_first = true }))
+        (session 1) holder }
+    ensures changed_but_hinted { ¬ Changes holding
+        (anew (took_d ++ gives 1 ∷ meets_change 1 1 ∷ []) map.empty (record (begun_anew 4) { used_hints = true }))
+        (session 1) holder }
+{}
+
+/// The notes of operations and of namenodes that are gone aren't in the book of what is built.
+pub fn what_is_not_built_is_not_told()
+    ensures a_flag { is_beyond ann_flags ≡ true }
+    ensures a_batch { is_beyond (batches 1 1) ≡ true }
+    ensures a_reclaim { is_beyond (reclaims 1 1) ≡ true }
+    ensures a_cut { is_beyond e_is_cut ≡ true }
+    ensures meeting_a_flag { is_beyond (meets_flag 1 1) ≡ true }
+    ensures meeting_a_loss { is_beyond (meets_loss 1 1) ≡ true }
+    ensures a_stop { is_beyond (stops 0) ≡ true }
+    ensures an_eviction { is_beyond (evicts 0) ≡ true }
+    ensures opening { is_beyond (opens 1 0 1 0) ≡ false }
+    ensures taking { is_beyond (takes 1 d_key) ≡ false }
+    ensures giving { is_beyond (gives 1) ≡ false }
+    ensures answering { is_beyond (does 1 0 1 make yes) ≡ false }
+    ensures meeting_a_lock { is_beyond (wants 1 d_key 2) ≡ false }
+    ensures meeting_a_change { is_beyond (meets_change 1 1) ≡ false }
+{}
+
+/// Each row that a session has found has an id below the next free one.
+pub fn rows_that_were_found_are_old()
+    ensures below { AreOld 3 (alone_in (first_at (finds (down_to d_row)))) }
+    ensures not_below { ¬ AreOld 2 (alone_in (first_at (finds (down_to d_row)))) }
+    ensures of_a_whole_place { ¬ AreOld 3 (alone_in (first_at (has_whole (whole d_row x_row)))) }
+    ensures nothing_found { AreOld 0 (alone_in (first_at start)) }
+    ensures no_session { AreOld 0 map.empty }
 {}

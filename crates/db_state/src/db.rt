@@ -1,9 +1,12 @@
 //! All that the core keeps, and the kinds of change that it knows.
 
-ghost use Rattle.std.specs.Prelude.{◌≡◌, ◌⊎◌, ◌+◌, ◌≤◌, ◌<◌, ◌^◌, ◌++◌, ℕ, List, Some, IfOk, IsSome, OnOk, OnErr, length, map as list_map, option_copied, slice_get, slice_set};
+ghost use Rattle.std.specs.Prelude.{◌≡◌, true, false, ◌⊎◌, ◌+◌, ◌≤◌, ◌<◌, ◌^◌, ◌++◌, ℕ, List, Some, IfOk, IsSome, OnOk, OnErr, length, map as list_map, option_copied, slice_get, slice_set};
 ghost use Rattle.std.specs.FinMap as map;
 ghost use Rattle.row_locks.specs.Locks.{IsGivenBack};
+ghost use Rattle.row_store.specs.Children.{child_count, IsChildren};
 ghost use Rattle.db_state.specs.Core.{IsCore};
+ghost use Rattle.db_state.specs.Stands.{quota_of};
+ghost use Rattle.db_state.specs.Stored.{root_key};
 ghost use Rattle.db_state.specs.Inside.{gave_by};
 ghost use Rattle.db_state.specs.Stages.{progress_of, with_progress};
 ghost use Rattle.db_state.specs.State.{empty_seat, opening_state};
@@ -21,8 +24,10 @@ use crate::store::{make_root_key, make_root_row};
 use crate::tables::Tables;
 use crate::writes::Writes;
 use commit_log::{Book, Cause, Note};
-use hops_base::{ClientNo, ItemList, Key, NoMemory, NodeNo, SessionId, User};
+use hops_base::{ClientNo, InodeId, ItemList, Key, Name, NoMemory, NodeNo, SessionId, User};
+use inode_table::Inode;
 use name_space::{Call, Reply};
+use quota_table::QuotaRow;
 use row_locks::{Ask, LockTable};
 use std::alloc::Global;
 use std::marker::Model;
@@ -117,6 +122,55 @@ impl Db {
         self.seats.get(client.0 as usize)
     }
 
+    /// The inode row of a key. None exactly where no row is there. It takes no memory.
+    pub fn inode(&self, key: &Key) -> Option<&Inode>
+        ensures { option_copied result ≡ map.get self.now.stored.inodes key.now }
+    {
+        self.tables.inodes.row(key)
+    }
+
+    /// The quota row of a directory. None exactly where it has none. It takes no memory.
+    pub fn quota(&self, id: InodeId) -> Option<&QuotaRow>
+        ensures { option_copied result ≡ quota_of self.now.stored.quotas id }
+    {
+        self.tables.quotas.row(&Key::Quota(id))
+    }
+
+    /// How many inode rows stand below a parent. It takes no memory.
+    pub fn child_count(&self, parent: InodeId) -> u64
+        ensures { result ≡ child_count self.now.stored.inodes parent }
+    {
+        self.tables.inodes.child_count(parent)
+    }
+
+    /// The names of the inode rows below a parent, rising.
+    pub fn children(&self, parent: InodeId) -> Result<Vec<Name>, NoMemory>
+        ensures { IfOk result (λ names. IsChildren self.now.stored.inodes parent names.items) }
+    {
+        self.tables.inodes.children(parent)
+    }
+
+    /// The next free inode id.
+    pub fn next(&self) -> InodeId
+        ensures { result.0 ≡ self.now.stored.next }
+    {
+        InodeId(self.next)
+    }
+
+    /// What the run is set up with.
+    pub fn settings(&self) -> &Settings
+        ensures { result.now ≡ self.now.stored.settings }
+    {
+        &self.settings
+    }
+
+    /// The key of the root's row, which is always there and never changes.
+    pub fn root_key(&self) -> &Key
+        ensures { result.now ≡ root_key }
+    {
+        &self.top
+    }
+
     /// The book.
     pub fn book(&self) -> &Book
         ensures { result.now.notes ≡ self.now.stored.notes }
@@ -132,7 +186,7 @@ impl Db {
     }
 
     /// Takes the next key of a session's plan, and notes it. Busy where another session keeps it away, the least that
-    /// does. After Busy and NoMemory all is as before.
+    /// does. NoMemory says nothing of who holds the key. After Busy and NoMemory all is as before.
     pub fn take(&mut self, s: SessionId) -> Ask
         requires { IsSome (asked_key self.old s) }
         ensures { Takes self.old s result self.new }
@@ -181,7 +235,7 @@ impl Db {
     }
 
     /// Goes on with a running session without a note. `go` is told how far it is, and says how far it then is: as far as
-    /// it was, or one stage further. Beside what `go` takes it takes no memory.
+    /// it was, or further. Beside what `go` takes it takes no memory.
     pub fn go_on<R, F: FnOnce(Progress) -> (Progress, R)>(&mut self, s: SessionId, go: F) -> R
         requires running { IsOpen self.old s }
         requires may { (doing : Session) → IsRunning self.old s doing → F.pre go (progress_of doing) }
@@ -193,10 +247,10 @@ impl Db {
         self.sessions.change(self.alloc, s, go)
     }
 
-    /// Gives back all that a running session holds, with a note where that is anything, and begins a new attempt. It
-    /// takes no memory.
+    /// Gives back all that a session holds, with a note where that is anything, and begins a new attempt: where what it
+    /// reads next isn't as it was found, and its attempt has used hints. It takes no memory.
     pub fn give(&mut self, s: SessionId)
-        requires { IsOpen self.old s }
+        requires { IsBehind self.old s true }
         ensures { (doing : Session) → IsRunning self.old s doing → Gives self.old self.new s doing start }
     {
         let stage = start_of_attempt(self.alloc);
@@ -213,9 +267,10 @@ impl Db {
     }
 
     /// Gives back all that a session holds, notes that what it had found was changed since its attempt began to read,
-    /// and begins a new attempt. Want of memory changes nothing.
+    /// and begins a new attempt: where what it reads next isn't as it was found, and its attempt has used no hints. Want
+    /// of memory changes nothing.
     pub fn change(&mut self, s: SessionId) -> Result<(), NoMemory>
-        requires { IsBehind self.old s }
+        requires { IsBehind self.old s false }
         ensures ok { OnOk result ((doing : Session) → IsRunning self.old s doing → Changes self.old self.new s doing) }
         ensures err { OnErr result (self.new ≡ self.old) }
     {
@@ -411,6 +466,8 @@ fn new_session(
         opened,
         since: opened + 1,
         reads: 0,
+        is_first: true,
+        used_hints: false,
         trail: ItemList::new(alloc),
         stage: start_of_attempt(alloc),
     }

@@ -24,11 +24,15 @@ pub struct Session {
     pub node: NodeNo,
     /// The number of the note that opened it.
     pub opened: u64,
-    /// How long the book was just before the first read of this attempt, and, until it has read, when it began.
+    /// How long the book was just before the first read of this attempt; before that read, when it last went on.
     pub since: u64,
-    /// How many rows its attempts have read to resolve their paths. It stays at its last value.
+    /// How many steps of its attempts have read to resolve their paths. It stays at its last value.
     pub reads: u64,
-    /// What the last resolution that came to its end found, row by row, for whoever resolves these paths next.
+    /// Whether this is its first attempt.
+    pub is_first: bool,
+    /// Whether this attempt has looked for rows by hints.
+    pub used_hints: bool,
+    /// What the last resolution that came to its end found for the call's first path, for whoever resolves it next.
     pub trail: Trail,
     pub stage: Stage,
 }
@@ -68,7 +72,7 @@ pub enum Stage {
     Lock(PlaceList, Plan, u64),
     /// It holds the keys of its plan, and reads the rows at them.
     Read(PlaceList, Plan),
-    /// It reads the rows above again, one by one, from the deepest upwards.
+    /// It reads the rows again that aren't locked, one by one, from the deepest of each path upwards.
     Reread(Reads, Plan),
     /// It answers its call from what it has read.
     Commit(Reads, Plan),

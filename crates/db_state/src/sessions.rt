@@ -1,6 +1,6 @@
 //! The sessions by their numbers.
 
-ghost use Rattle.std.specs.Prelude.{◌≡◌, ℕ, Some, IfSome, IsSome, OnOk, OnErr, option_copied, option_map, if◌then◌else◌};
+ghost use Rattle.std.specs.Prelude.{◌≡◌, false, ℕ, Some, IfSome, IsSome, OnOk, OnErr, option_copied, option_map, if◌then◌else◌};
 ghost use Rattle.std.specs.BTreeMap.{IsOrdered, get};
 ghost use Rattle.std.specs.FinMap as map;
 ghost use Rattle.std.specs.Ordering.{eq_by_cmp, nat_cmp};
@@ -89,7 +89,7 @@ impl SessionTable {
     pub fn begin_at(&mut self, s: SessionId, since: u64, stage: Stage)
         requires { IsSome (map.get self.old s.0) }
         ensures { (doing : Session) → map.get self.old s.0 ≡ Some doing
-            → self.new ≡ with_session self.old s (record doing { since = since; stage = stage }) }
+            → self.new ≡ with_session self.old s (record doing { is_first = false; used_hints = false; since = since; stage = stage }) }
     {
         begin_in(&mut self.sessions, s.0, since, stage);
     }
@@ -139,12 +139,14 @@ fn begin_in(sessions: &mut BTreeMap<u64, Session>, number: u64, since: u64, stag
     requires there { IsSome (get nat_cmp sessions.old number) }
     ensures ordered { IsOrdered nat_cmp sessions.new }
     ensures sessions { (q : ℕ) → get nat_cmp sessions.new q ≡ (if eq_by_cmp nat_cmp number q
-        then option_map (λ (doing : Session). record doing { since = since; stage = stage }) (get nat_cmp sessions.old q)
+        then option_map (λ (doing : Session). record doing { is_first = false; used_hints = false; since = since; stage = stage }) (get nat_cmp sessions.old q)
         else get nat_cmp sessions.old q) }
 {
     let Some(session) = sessions.get_mut(&number) else {
         unreachable!()
     };
+    session.is_first = false;
+    session.used_hints = false;
     session.since = since;
     set_stage(session, stage);
 }

@@ -25,15 +25,17 @@ read_again mode = record {
 }
 
 pub returns-clause-as_found : goal.returns-clause-as_found
-returns-clause-as_found c = (((read_again 420, tt), refl), refl)
+unfolding key_cmp
+returns-clause-as_found c = ((read_again 420, tt), refl, (λ none. let bad = none in cc), refl)
 
 pub returns-clause-the_tables : goal.returns-clause-the_tables
-returns-clause-the_tables c = (((read_again 448, tt), refl), refl)
+unfolding key_cmp
+returns-clause-the_tables c = ((read_again 448, tt), refl, (λ none. let bad = none in cc), refl)
 
 pub returns-clause-not_the_tables : goal.returns-clause-not_the_tables
 unfolding key_cmp
 returns-clause-not_the_tables c goes =
-    let same : Some (with_mode 448 x_row) ≡ Some x_row = sym (x_is d_row (with_mode 448 x_row)) ∙ goes.0.0.0.rows.1.1.0.held refl in
+    let same : Some (with_mode 448 x_row) ≡ Some x_row = sym (x_is d_row (with_mode 448 x_row)) ∙ goes.0.0.rows.1.1.0.held refl in
     let one : with_mode 448 x_row ≡ x_row = cc in
     let bad : ◌≡◌ {A = ℕ} 448 420 = ap (λ (row : Inode). row.mode) one in
     omega arith

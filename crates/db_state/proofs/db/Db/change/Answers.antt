@@ -1,4 +1,4 @@
-use Rattle.std.proofs.Common.{sym, subst}
+use Rattle.std.proofs.Common.{false, sym, subst}
 use Rattle.db_state.specs.Callers.{IsBehind}
 use Rattle.db_state.specs.State.{State}
 use Rattle.db_state.specs.Stages.{keys_in}
@@ -17,6 +17,6 @@ overflow_sub-self c = rw c.holds_any-held.ensures (held_counted _ _ _ _ _ c.self
 pub invariant_of-self-2 : goal.invariant_of-self-2
 invariant_of-self-2 c =
     let there = sym c.in-Some.ensures in
-    let behind = subst (λ (state : State). IsBehind state c.args.s) (sym c.self.view_is) c.requires in
+    let behind = subst (λ (state : State). IsBehind state c.args.s false) (sym c.self.view_is) c.requires in
     rw (c.begin_at.ensures c.in-Some.doing.now there, c.len.ensures, c.push.ensures, c.give_up.ensures.book, c.make_room.ensures.notes, c.start_of_attempt.ensures, c.holds_any-held.ensures)
-    (changed_inside _ _ _ _ _ c.self.invariant c.args.s c.in-Some.doing.now c.give_up.new.table c.make_room.new.book.room (behind_at _ c.args.s behind c.in-Some.doing.now there) c.give_up.ensures.locks c.in_ok-make_room.ensures.ok)
+    (changed_inside _ _ _ _ _ c.self.invariant c.args.s c.in-Some.doing.now c.give_up.new.table c.make_room.new.book.room (behind_at _ c.args.s false behind c.in-Some.doing.now there) c.give_up.ensures.locks c.in_ok-make_room.ensures.ok)

@@ -1,4 +1,4 @@
-use Rattle.std.proofs.Common.{◌≡◌, Some, IsSome, ap, sym, subst, ◌∙◌}
+use Rattle.std.proofs.Common.{◌≡◌, false, Some, IsSome, ap, sym, subst, ◌∙◌}
 use Rattle.std.specs.FinMap as map
 use Rattle.db_state.specs.declared.session.Session.{Session}
 use Rattle.db_state.proofs.SessionTableLemmas.{get_seen, changed_seen}
@@ -10,5 +10,5 @@ begin_in-requires-clause-there c = subst IsSome (sym (ap (λ sessions. map.get s
 pub returns : goal.returns
 returns c = λ doing there.
     let seen : map.get (map.from_entries c.self.inside.sessions.entries) c.args.s.0 ≡ Some doing = ap (λ sessions. map.get sessions c.args.s.0) c.self.view_is ∙ there in
-    changed_seen c.self.inside.sessions c.begin_in.new.sessions c.args.s.0 doing (λ (doing : Session). record doing { since = c.args.since; stage = c.args.stage }) seen c.begin_in.ensures.sessions
-    ∙ ap (λ sessions. map.insert sessions c.args.s.0 (record doing { since = c.args.since; stage = c.args.stage })) c.self.view_is
+    changed_seen c.self.inside.sessions c.begin_in.new.sessions c.args.s.0 doing (λ (doing : Session). record doing { is_first = false; used_hints = false; since = c.args.since; stage = c.args.stage }) seen c.begin_in.ensures.sessions
+    ∙ ap (λ sessions. map.insert sessions c.args.s.0 (record doing { is_first = false; used_hints = false; since = c.args.since; stage = c.args.stage })) c.self.view_is
