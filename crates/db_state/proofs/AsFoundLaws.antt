@@ -1,6 +1,5 @@
 -- What a session reads next is as it was found, where all that it has found is.
 use Rattle.std.proofs.Common.{◌≡◌, ℕ, Bool, true, not, List, [], ◌∷◌, drop, take, refl, sym, ◌∙◌}
-use Rattle.std.specs.FinMap as map
 use Rattle.std.specs.List.{AllByRecursion, filter, flat_map}
 use Rattle.hops_base.specs.declared.ids.Mode.{Mode}
 use Rattle.hops_base.specs.declared.key.Key.{Key}

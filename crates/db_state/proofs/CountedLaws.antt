@@ -1,5 +1,5 @@
 -- What is counted beside all that is seen, once one thing more has happened.
-use Rattle.std.proofs.Common.{◌≡◌, ◌≢◌, ℕ, ◌+◌, ◌-◌, ◌≤◌, zero, suc, true, false, ◌==◌, cond, if◌then◌else◌, take, List, [], ◌∷◌, ◌++◌, length, slice_get, slice_set, Option, Some, None, is_some, IfSome, arith, refl, sym, ap, subst, ◌∙◌, Bool, ◌<◌, eq-eqb}
+use Rattle.std.proofs.Common.{◌≡◌, ◌≢◌, ℕ, ◌+◌, ◌-◌, ◌≤◌, zero, suc, true, false, ◌==◌, cond, if◌then◌else◌, take, List, [], ◌∷◌, ◌++◌, length, slice_get, slice_set, Option, Some, None, is_some, IfSome, arith, refl, sym, ap, subst, ◌∙◌, Bool, ◌<◌, eq-eqb, not}
 use Rattle.std.proofs.lemmas.List.{length-append, append-nil}
 use Rattle.std.specs.Option.{IsSomeAnd}
 use Rattle.std.proofs.lemmas.List.Sums.{sum_by-append}
@@ -19,7 +19,7 @@ use Rattle.db_state.specs.declared.session.Stage.{Stage}
 use Rattle.db_state.specs.declared.session.Stage.TheVariants.{Resolve, Lock, Read, Reread, Commit, Answered}
 use Rattle.db_state.proofs.BookTellLaws.{length-push}
 use Rattle.db_state.specs.Core.{IsCore}
-use Rattle.db_state.specs.Inside.{one_if_any, one_if_holding, holders, gave_by, IsCounted, named_session}
+use Rattle.db_state.specs.Inside.{has_any, one_if, one_if_holding, holders, gave_by, IsCounted, named_session}
 use Rattle.db_state.specs.Stages.{keys_in, next_key, is_over}
 use Rattle.db_state.specs.Steps.{with_session, one_more, start, seat_of, next_session, new_session, without_last, opened_by, CanOpen}
 use Rattle.db_state.proofs.HoldingLemmas.{holders_moved, set_itself, sum_moved}
@@ -52,42 +52,46 @@ module _ (old : State) (s : SessionId) (doing : Session) (core : IsCore old) (th
 
   -- the session is put as another, and its seat may be another that is its own
   pub holders_with : (y : Seat) (new : Session) → y.last ≡ Some s
-      → holders (slice_set old.seats doing.client.0 y) (with_session old.sessions s new) + one_if_any (keys_in doing.stage) ≡ holders old.seats old.sessions + one_if_any (keys_in new.stage)
+      → holders (slice_set old.seats doing.client.0 y) (with_session old.sessions s new) + one_if (has_any (keys_in doing.stage)) ≡ holders old.seats old.sessions + one_if (has_any (keys_in new.stage))
   holders_with y new last =
       let seat = core.seats.seated s doing there in
       ap (λ (o : Option Session). holders (slice_set old.seats doing.client.0 y) (with_session old.sessions s new) + one_if_holding o) (sym there)
       ∙ holders_moved old.seats old.sessions doing.client.0 seat.seat y s new seat.there seat.last last others
 
   -- the seats stay
-  pub holders_still : (new : Session) → holders old.seats (with_session old.sessions s new) + one_if_any (keys_in doing.stage) ≡ holders old.seats old.sessions + one_if_any (keys_in new.stage)
+  pub holders_still : (new : Session) → holders old.seats (with_session old.sessions s new) + one_if (has_any (keys_in doing.stage)) ≡ holders old.seats old.sessions + one_if (has_any (keys_in new.stage))
   holders_still new =
       let seat = core.seats.seated s doing there in
-      ap (λ (seats : List Seat). holders seats (with_session old.sessions s new) + one_if_any (keys_in doing.stage)) (sym (set_itself old.seats doing.client.0 seat.seat seat.there))
+      ap (λ (seats : List Seat). holders seats (with_session old.sessions s new) + one_if (has_any (keys_in doing.stage))) (sym (set_itself old.seats doing.client.0 seat.seat seat.there))
       ∙ holders_with seat.seat new seat.last
 
 -- ---- what is left of a session's keys
 
-pub at_most_one : {A : Type 0} (xs : List A) → one_if_any xs ≤ 1
-at_most_one [] = omega arith
-at_most_one (x ∷ xs) = omega arith
+pub at_most_one : (b : Bool) → one_if b ≤ 1
+at_most_one true = omega arith
+at_most_one false = omega arith
 
-some_taken : (keys : List (Key × Mode)) (taken : ℕ) (k : Key × Mode) → slice_get keys taken ≡ Some k → one_if_any (take (taken + 1) keys) ≡ 1
+one_or_other : (b : Bool) → one_if (not b) + one_if b ≡ 1
+one_or_other true = refl
+one_or_other false = refl
+
+some_taken : (keys : List (Key × Mode)) (taken : ℕ) (k : Key × Mode) → slice_get keys taken ≡ Some k → has_any (take (taken + 1) keys) ≡ true
 some_taken keys taken k e = by_suc (taken + 1) keys (omega arith) e
   where
-    by_suc : (n : ℕ) (ks : List (Key × Mode)) → n ≡ suc taken → slice_get ks taken ≡ Some k → one_if_any (take n ks) ≡ 1
+    by_suc : (n : ℕ) (ks : List (Key × Mode)) → n ≡ suc taken → slice_get ks taken ≡ Some k → has_any (take n ks) ≡ true
     by_suc n [] is e' = absurd (let bad = e' in cc)
     by_suc zero (x ∷ ks) is e' = absurd (omega arith)
     by_suc (suc n) (x ∷ ks) is e' = refl
 
-some_planned : (keys : List (Key × Mode)) (taken : ℕ) (k : Key × Mode) → slice_get keys taken ≡ Some k → one_if_any keys ≡ 1
+some_planned : (keys : List (Key × Mode)) (taken : ℕ) (k : Key × Mode) → slice_get keys taken ≡ Some k → has_any keys ≡ true
 some_planned [] taken k e = absurd (let bad = e in cc)
 some_planned (x ∷ keys) taken k e = refl
 
 -- a session that has taken a key holds one
-one_more_holds : (stage : Stage) (k : Key × Mode) → next_key stage ≡ Some k → one_if_any (keys_in (one_more stage)) ≡ 1
+one_more_holds : (stage : Stage) (k : Key × Mode) → next_key stage ≡ Some k → has_any (keys_in (one_more stage)) ≡ true
 one_more_holds (Resolve places found) k e = absurd (let bad = e in cc)
 one_more_holds (Lock places keys taken) k e =
-    elim (taken + 1 == length keys) as (λ b. one_if_any (keys_in (if b then Read places keys else Lock places keys (taken + 1))) ≡ 1) [
+    elim (taken + 1 == length keys) as (λ b. has_any (keys_in (if b then Read places keys else Lock places keys (taken + 1))) ≡ true) [
       | true ↦ some_planned keys taken k e
       | false ↦ some_taken keys taken k e
     ]
@@ -98,14 +102,16 @@ one_more_holds Answered k e = absurd (let bad = e in cc)
 
 -- ---- the counts
 
-pub length_gave : (notes : List Note) (s : SessionId) (held : ℕ) → held ≤ 1 → length (notes ++ gave_by s held) ≡ length notes + held
-length_gave notes s zero few = length-append notes (gave_by s zero)
-length_gave notes s (suc zero) few = length-append notes (gave_by s (suc zero))
-length_gave notes s (suc (suc n)) few = absurd (omega arith)
+pub length_gave : (notes : List Note) (s : SessionId) (held : Bool) → length (notes ++ gave_by s held) ≡ length notes + one_if held
+length_gave notes s held = length-append notes (gave_by s held) ∙ ap (λ (n : ℕ). length notes + n) (by_test held)
+  where
+    by_test : (b : Bool) → length (gave_by s b) ≡ one_if b
+    by_test true = refl
+    by_test false = refl
 
-openings_gave : (notes : List Note) (s : SessionId) (held : ℕ) → openings (notes ++ gave_by s held) ≡ openings notes
-openings_gave notes s zero = ap openings (append-nil notes)
-openings_gave notes s (suc n) = let more = openings-push notes (Gave s) in omega arith
+openings_gave : (notes : List Note) (s : SessionId) (held : Bool) → openings (notes ++ gave_by s held) ≡ openings notes
+openings_gave notes s true = let more = openings-push notes (Gave s) in omega arith
+openings_gave notes s false = ap openings (append-nil notes)
 
 -- one note more that opens nothing
 pub counted_note : (seats : List Seat) (sessions : Sessions) (notes : List Note) (note : Note) (room room' opened holding : ℕ) → IsCounted seats sessions notes room opened holding
@@ -119,26 +125,27 @@ module _ (old : State) (s : SessionId) (doing : Session) (core : IsCore old) (th
     (counted : IsCounted old.seats old.sessions old.stored.notes room opened holding) where
   -- a key is taken
   pub counted_take : (k : Key × Mode) (room' : ℕ) → next_key doing.stage ≡ Some k → length old.stored.notes + holding + 2 ≤ room'
-      → IsCounted old.seats (with_session old.sessions s (record doing { stage = one_more doing.stage })) (old.stored.notes ++ Took s k.0 k.1 ∷ []) room' opened (holding + (1 - one_if_any (keys_in doing.stage)))
+      → IsCounted old.seats (with_session old.sessions s (record doing { stage = one_more doing.stage })) (old.stored.notes ++ Took s k.0 k.1 ∷ []) room' opened (holding + one_if (not (has_any (keys_in doing.stage))))
   counted_take k room' next enough =
       let more = openings-push old.stored.notes (Took s k.0 k.1) in
       let long = length-push old.stored.notes (Took s k.0 k.1) in
       let still = holders_still old s doing core there (record doing { stage = one_more doing.stage }) in
-      let one = one_more_holds doing.stage k next in
-      let few = at_most_one (keys_in doing.stage) in
+      let one = ap one_if (one_more_holds doing.stage k next) in
+      let other = one_or_other (has_any (keys_in doing.stage)) in
+      let few = at_most_one (has_any (keys_in doing.stage)) in
       let was = counted.holding in
       record { opened = (let a = counted.opened in omega arith); holding = omega arith; room = omega arith }
 
   -- all is given back
   pub counted_give : (since : ℕ) (stage : Stage) → keys_in stage ≡ []
-      → IsCounted old.seats (with_session old.sessions s (record doing { is_first = false; used_hints = false; since = since; stage = stage })) (old.stored.notes ++ gave_by s (one_if_any (keys_in doing.stage))) room opened
-      (holding - one_if_any (keys_in doing.stage))
+      → IsCounted old.seats (with_session old.sessions s (record doing { is_first = false; used_hints = false; since = since; stage = stage })) (old.stored.notes ++ gave_by s (has_any (keys_in doing.stage))) room opened
+      (holding - one_if (has_any (keys_in doing.stage)))
   counted_give since stage bare =
-      let more = openings_gave old.stored.notes s (one_if_any (keys_in doing.stage)) in
-      let few = at_most_one (keys_in doing.stage) in
-      let long = length_gave old.stored.notes s (one_if_any (keys_in doing.stage)) few in
+      let more = openings_gave old.stored.notes s (has_any (keys_in doing.stage)) in
+      let few = at_most_one (has_any (keys_in doing.stage)) in
+      let long = length_gave old.stored.notes s (has_any (keys_in doing.stage)) in
       let still = holders_still old s doing core there (record doing { is_first = false; used_hints = false; since = since; stage = stage }) in
-      let none : one_if_any (keys_in stage) ≡ 0 = ap one_if_any bare in
+      let none : one_if (has_any (keys_in stage)) ≡ 0 = ap (λ (keys : List (Key × Mode)). one_if (has_any keys)) bare in
       let was = counted.holding in
       let a = counted.opened in
       let b = counted.room in
@@ -146,11 +153,11 @@ module _ (old : State) (s : SessionId) (doing : Session) (core : IsCore old) (th
 
   -- the session answers
   pub counted_answer : (note : Note) (y : Seat) (room' : ℕ) → y.last ≡ Some s → openings (note ∷ []) ≡ 0 → length old.stored.notes + holding + 1 ≤ room'
-      → IsCounted (slice_set old.seats doing.client.0 y) (with_session old.sessions s (record doing { stage = Answered })) (old.stored.notes ++ note ∷ []) room' opened (holding - one_if_any (keys_in doing.stage))
+      → IsCounted (slice_set old.seats doing.client.0 y) (with_session old.sessions s (record doing { stage = Answered })) (old.stored.notes ++ note ∷ []) room' opened (holding - one_if (has_any (keys_in doing.stage)))
   counted_answer note y room' last none enough =
       let more = openings-push old.stored.notes note in
       let long = length-push old.stored.notes note in
-      let few = at_most_one (keys_in doing.stage) in
+      let few = at_most_one (has_any (keys_in doing.stage)) in
       let moved = holders_with old s doing core there y (record doing { stage = Answered }) last in
       let was = counted.holding in
       let a = counted.opened in
@@ -158,14 +165,14 @@ module _ (old : State) (s : SessionId) (doing : Session) (core : IsCore old) (th
 
   -- all is given back, and a change is met
   pub counted_change : (since : ℕ) (room' : ℕ) → length old.stored.notes + holding + 1 ≤ room'
-      → IsCounted old.seats (with_session old.sessions s (record doing { is_first = false; used_hints = false; since = since; stage = start })) ((old.stored.notes ++ gave_by s (one_if_any (keys_in doing.stage))) ++ Met s (Changed doing.since) ∷ []) room' opened
-      (holding - one_if_any (keys_in doing.stage))
+      → IsCounted old.seats (with_session old.sessions s (record doing { is_first = false; used_hints = false; since = since; stage = start })) ((old.stored.notes ++ gave_by s (has_any (keys_in doing.stage))) ++ Met s (Changed doing.since) ∷ []) room' opened
+      (holding - one_if (has_any (keys_in doing.stage)))
   counted_change since room' enough =
-      let gave = openings_gave old.stored.notes s (one_if_any (keys_in doing.stage)) in
-      let more = openings-push (old.stored.notes ++ gave_by s (one_if_any (keys_in doing.stage))) (Met s (Changed doing.since)) in
-      let few = at_most_one (keys_in doing.stage) in
-      let long = length_gave old.stored.notes s (one_if_any (keys_in doing.stage)) few in
-      let longer = length-push (old.stored.notes ++ gave_by s (one_if_any (keys_in doing.stage))) (Met s (Changed doing.since)) in
+      let gave = openings_gave old.stored.notes s (has_any (keys_in doing.stage)) in
+      let more = openings-push (old.stored.notes ++ gave_by s (has_any (keys_in doing.stage))) (Met s (Changed doing.since)) in
+      let few = at_most_one (has_any (keys_in doing.stage)) in
+      let long = length_gave old.stored.notes s (has_any (keys_in doing.stage)) in
+      let longer = length-push (old.stored.notes ++ gave_by s (has_any (keys_in doing.stage))) (Met s (Changed doing.since)) in
       let still = holders_still old s doing core there (record doing { is_first = false; used_hints = false; since = since; stage = start }) in
       let was = counted.holding in
       let a = counted.opened in
@@ -188,7 +195,7 @@ over_holds_none : (o : Option Session) → IfSome o (λ last. is_over last.stage
 over_holds_none None over = refl
 over_holds_none (Some doing) over = by_stage doing.stage over
   where
-    by_stage : (stage : Stage) → is_over stage ≡ true → one_if_any (keys_in stage) ≡ 0
+    by_stage : (stage : Stage) → is_over stage ≡ true → one_if (has_any (keys_in stage)) ≡ 0
     by_stage (Resolve places found) is = refl
     by_stage (Lock places keys taken) is = absurd (let bad = is in cc)
     by_stage (Read places keys) is = absurd (let bad = is in cc)

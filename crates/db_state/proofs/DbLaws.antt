@@ -1,5 +1,5 @@
 -- All that is kept, once one thing more has happened.
-use Rattle.std.proofs.Common.{◌≡◌, ◌⊎◌, ℕ, ◌+◌, ◌-◌, ◌*◌, ◌<◌, ◌≤◌, ◌^◌, List, [], ◌∷◌, ◌++◌, length, slice_get, slice_set, Option, Some, None, arith, refl, sym, ap, subst, ◌∙◌, inl, inr, unwrap_or, Bool, true, false, ◌≢◌, ◌==◌, cond, eqb-true, IfSome}
+use Rattle.std.proofs.Common.{◌≡◌, ◌⊎◌, ℕ, ◌+◌, ◌-◌, ◌*◌, ◌<◌, ◌≤◌, ◌^◌, List, [], ◌∷◌, ◌++◌, length, slice_get, slice_set, Option, Some, None, arith, refl, sym, ap, subst, ◌∙◌, inl, inr, unwrap_or, Bool, true, false, ◌≢◌, ◌==◌, cond, eqb-true, IfSome, not}
 use Rattle.std.proofs.lemmas.List.{append-nil}
 use Rattle.std.proofs.lemmas.List.Sums.{sum_by-cons}
 use Rattle.std.specs.List.{sum_by, AllByRecursion}
@@ -31,7 +31,7 @@ use Rattle.db_state.specs.Core.{IsCore}
 use Rattle.db_state.specs.Reads.{Reads}
 use Rattle.db_state.specs.Stages.{keys_in, next_key}
 use Rattle.db_state.specs.Written.{committed, next_after}
-use Rattle.db_state.specs.Inside.{one_if_any, gave_by, IsInside, holders, one_if_holding, named_session}
+use Rattle.db_state.specs.Inside.{has_any, one_if, gave_by, IsInside, holders, one_if_holding, named_session}
 use Rattle.db_state.specs.Callers.{IsOpen, IsKeptAway, IsBehind, IsAnswer}
 use Rattle.db_state.specs.BookParts.{most_new_ids}
 use Rattle.db_state.specs.Steps.{seat_of, with_session, one_more, start, given_stored, IsRunning, CanTake, CanMeet, CanChange, CanAnswer, noted, opened_by, CanOpen, next_session, without_last, CanMove, moved_by}
@@ -40,7 +40,7 @@ use Rattle.db_state.proofs.MetLaws.{met_lock_core}
 use Rattle.db_state.proofs.GiveLaws.{IsBare, start_is_bare, end_is_bare, given_core}
 use Rattle.db_state.proofs.DiffersLaws.{changed_core}
 use Rattle.db_state.proofs.AnswerLaws.{answered_core}
-use Rattle.db_state.proofs.CountedLaws.{counted_note, counted_take, counted_give, counted_answer, counted_change, counted_begun, counted_open, holders_still, at_most_one, length_gave}
+use Rattle.db_state.proofs.CountedLaws.{counted_note, counted_take, counted_give, counted_answer, counted_change, counted_begun, counted_open, holders_still, length_gave}
 use Rattle.std.proofs.lemmas.Option.{slice_get-get_or, unwrap_or-slice_get, slice_get_within}
 use Rattle.db_state.proofs.OpenLaws.{opened_core, begun_core, no_session}
 use Rattle.db_state.proofs.OpeningCoreLaws.{opening_core}
@@ -63,7 +63,7 @@ bare_stage stage (inl e) = subst IsBare (sym e) start_is_bare
 bare_stage stage (inr e) = subst IsBare (sym e) end_is_bare
 
 -- the book once a session has given these keys back
-given_notes : (stored : Stored) (s : SessionId) (keys : List (Key × Mode)) → record stored { notes = stored.notes ++ gave_by s (one_if_any keys) } ≡ given_stored stored s keys
+given_notes : (stored : Stored) (s : SessionId) (keys : List (Key × Mode)) → record stored { notes = stored.notes ++ gave_by s (has_any keys) } ≡ given_stored stored s keys
 given_notes stored s [] = ap (λ (notes : List Note). record stored { notes = notes }) (append-nil stored.notes)
 given_notes stored s (k ∷ keys) = refl
 
@@ -81,7 +81,7 @@ next_is_free state s doing k core there next = go (mode_of state.locks s k.0) re
 
 module _ (state : State) (top : Key) (room opened holding : ℕ) (inside : IsInside state top room opened holding) (s : SessionId) (doing : Session) where
   -- a session that holds keys is counted
-  pub held_counted : map.get state.sessions s.0 ≡ Some doing → one_if_any (keys_in doing.stage) ≤ holding
+  pub held_counted : map.get state.sessions s.0 ≡ Some doing → one_if (has_any (keys_in doing.stage)) ≤ holding
   held_counted there =
       let still = holders_still state s doing inside.core there (record doing { stage = Answered }) in
       let count = inside.counts.holding in
@@ -94,7 +94,7 @@ module _ (state : State) (top : Key) (room opened holding : ℕ) (inside : IsIns
         locks = map.insert state.locks (s.0, k.0) k.1;
         seats = state.seats;
         sessions = with_session state.sessions s (record doing { stage = one_more doing.stage });
-      }) top room' opened (holding + (1 - one_if_any (keys_in doing.stage)))
+      }) top room' opened (holding + one_if (not (has_any (keys_in doing.stage))))
   taken_inside k room' can enough = record {
     core = took_core state s doing k inside.core can;
     top_key = inside.top_key;
@@ -120,36 +120,36 @@ module _ (state : State) (top : Key) (room opened holding : ℕ) (inside : IsIns
   -- all is given back
   pub given_inside : (stage : Stage) (locks : Locks) → IsRunning state s doing → IsBare stage → IsGivenBack s state.locks locks
       → IsInside (record {
-        stored = record state.stored { notes = state.stored.notes ++ gave_by s (one_if_any (keys_in doing.stage)) };
+        stored = record state.stored { notes = state.stored.notes ++ gave_by s (has_any (keys_in doing.stage)) };
         locks = locks;
         seats = state.seats;
-        sessions = with_session state.sessions s (record doing { is_first = false; used_hints = false; since = length (state.stored.notes ++ gave_by s (one_if_any (keys_in doing.stage))); stage = stage });
-      }) top room opened (holding - one_if_any (keys_in doing.stage))
+        sessions = with_session state.sessions s (record doing { is_first = false; used_hints = false; since = length (state.stored.notes ++ gave_by s (has_any (keys_in doing.stage))); stage = stage });
+      }) top room opened (holding - one_if (has_any (keys_in doing.stage)))
   given_inside stage locks runs bare given = record {
     core = given_core state (record {
-      stored = record state.stored { notes = state.stored.notes ++ gave_by s (one_if_any (keys_in doing.stage)) };
+      stored = record state.stored { notes = state.stored.notes ++ gave_by s (has_any (keys_in doing.stage)) };
       locks = locks;
       seats = state.seats;
-      sessions = with_session state.sessions s (record doing { is_first = false; used_hints = false; since = length (state.stored.notes ++ gave_by s (one_if_any (keys_in doing.stage))); stage = stage });
+      sessions = with_session state.sessions s (record doing { is_first = false; used_hints = false; since = length (state.stored.notes ++ gave_by s (has_any (keys_in doing.stage))); stage = stage });
     }) s doing stage inside.core runs bare (record { stored = given_notes state.stored s (keys_in doing.stage); locks = given; seats = refl; sessions = refl });
     top_key = inside.top_key;
     settings = inside.settings;
-    counts = counted_give state s doing inside.core runs.there room opened holding inside.counts (length (state.stored.notes ++ gave_by s (one_if_any (keys_in doing.stage)))) stage bare.keys;
+    counts = counted_give state s doing inside.core runs.there room opened holding inside.counts (length (state.stored.notes ++ gave_by s (has_any (keys_in doing.stage)))) stage bare.keys;
   }
 
   -- a change is met
   pub changed_inside : (locks : Locks) (room' : ℕ) → CanChange state s doing false → IsGivenBack s state.locks locks → length state.stored.notes + holding + 1 ≤ room'
       → IsInside (record {
-        stored = record state.stored { notes = (state.stored.notes ++ gave_by s (one_if_any (keys_in doing.stage))) ++ Met s (Changed doing.since) ∷ [] };
+        stored = record state.stored { notes = (state.stored.notes ++ gave_by s (has_any (keys_in doing.stage))) ++ Met s (Changed doing.since) ∷ [] };
         locks = locks;
         seats = state.seats;
-        sessions = with_session state.sessions s (record doing { is_first = false; used_hints = false; since = length ((state.stored.notes ++ gave_by s (one_if_any (keys_in doing.stage))) ++ Met s (Changed doing.since) ∷ []); stage = start });
-      }) top room' opened (holding - one_if_any (keys_in doing.stage))
+        sessions = with_session state.sessions s (record doing { is_first = false; used_hints = false; since = length ((state.stored.notes ++ gave_by s (has_any (keys_in doing.stage))) ++ Met s (Changed doing.since) ∷ []); stage = start });
+      }) top room' opened (holding - one_if (has_any (keys_in doing.stage)))
   changed_inside locks room' can given enough =
-      let long : ℕ = length ((state.stored.notes ++ gave_by s (one_if_any (keys_in doing.stage))) ++ Met s (Changed doing.since) ∷ []) in
+      let long : ℕ = length ((state.stored.notes ++ gave_by s (has_any (keys_in doing.stage))) ++ Met s (Changed doing.since) ∷ []) in
       record {
         core = changed_core state (record {
-          stored = record state.stored { notes = (state.stored.notes ++ gave_by s (one_if_any (keys_in doing.stage))) ++ Met s (Changed doing.since) ∷ [] };
+          stored = record state.stored { notes = (state.stored.notes ++ gave_by s (has_any (keys_in doing.stage))) ++ Met s (Changed doing.since) ∷ [] };
           locks = locks;
           seats = state.seats;
           sessions = with_session state.sessions s (record doing { is_first = false; used_hints = false; since = long; stage = start });
@@ -168,7 +168,7 @@ module _ (state : State) (top : Key) (room opened holding : ℕ) (inside : IsIns
         locks = locks;
         seats = slice_set state.seats doing.client.0 (record (seat_of state.seats doing.client) { answered = doing.number });
         sessions = with_session state.sessions s (record doing { stage = Answered });
-      }) top room' opened (holding - one_if_any (keys_in doing.stage))
+      }) top room' opened (holding - one_if (has_any (keys_in doing.stage)))
   answered_inside reads keys writes reply locks room' can given enough = record {
     core = answered_core state (record {
       stored = committed state.stored writes (Did s doing.client doing.number doing.call doing.reads reply ∷ []);
@@ -272,9 +272,9 @@ answer_at state s writes reply answer doing there =
     (answer.1, answer.2, subst (λ (d : Session). CanAnswer state s d answer.1 answer.2 writes reply) same answer.3)
 
 -- after the locks are given back there is room for one note more
-pub room_for_met : {A : Type 0} (notes : List Note) (s : SessionId) (keys : List A) (holding room : ℕ) → one_if_any keys ≤ holding → length notes + holding + 1 ≤ room
-    → length (notes ++ gave_by s (one_if_any keys)) < room
-room_for_met notes s keys holding room few enough = let long = length_gave notes s (one_if_any keys) (at_most_one keys) in omega arith
+pub room_for_met : (notes : List Note) (s : SessionId) (held : Bool) (holding room : ℕ) → one_if held ≤ holding → length notes + holding + 1 ≤ room
+    → length (notes ++ gave_by s held) < room
+room_for_met notes s held holding room few enough = let long = length_gave notes s held in omega arith
 
 -- the seat that was found is the client's
 pub seat_found : (seats shown : List Seat) (client : ClientNo) (seat : Seat) → shown ≡ seats → slice_get shown client.0 ≡ Some seat → seat ≡ seat_of seats client
@@ -350,7 +350,7 @@ moved_inside state top room opened holding inside s doing new there (inr can) = 
     opened = inside.counts.opened;
     holding =
         let still = holders_still state s doing inside.core there new in
-        let keys : one_if_any (keys_in new.stage) ≡ one_if_any (keys_in doing.stage) = ap one_if_any (goes_on state.stored.inodes doing.stage new.stage can.goes).0 in
+        let keys : one_if (has_any (keys_in new.stage)) ≡ one_if (has_any (keys_in doing.stage)) = ap (λ (keys : List (Key × Mode)). one_if (has_any keys)) (goes_on state.stored.inodes doing.stage new.stage can.goes).0 in
         let was = inside.counts.holding in
         omega arith;
     room = inside.counts.room;

@@ -7,7 +7,7 @@ use Rattle.std.specs.FinMap as map
 use Rattle.hops_base.specs.declared.ids.SessionId.{SessionId}
 use Rattle.db_state.specs.declared.session.Seat.{Seat}
 use Rattle.db_state.specs.declared.session.Session.{Session}
-use Rattle.db_state.specs.Inside.{one_if_any, one_if_holding, named_session, holders}
+use Rattle.db_state.specs.Inside.{has_any, one_if, one_if_holding, named_session, holders}
 use Rattle.db_state.specs.Stages.{keys_in}
 use Rattle.db_state.specs.State.{Sessions}
 use Rattle.db_state.specs.Steps.{with_session}
@@ -61,13 +61,13 @@ named_still sessions s new (Some t) apart =
 pub holders_moved : (seats : List Seat) (sessions : Sessions) (i : ℕ) (x y : Seat) (s : SessionId) (new : Session)
     → slice_get seats i ≡ Some x → x.last ≡ Some s → y.last ≡ Some s
     → ((j : ℕ) (z : Seat) → j ≢ i → slice_get seats j ≡ Some z → z.last ≢ Some s)
-    → holders (slice_set seats i y) (with_session sessions s new) + one_if_holding (map.get sessions s.0) ≡ holders seats sessions + one_if_any (keys_in new.stage)
+    → holders (slice_set seats i y) (with_session sessions s new) + one_if_holding (map.get sessions s.0) ≡ holders seats sessions + one_if (has_any (keys_in new.stage))
 holders_moved seats sessions i x y s new there last last' others =
     let f : Seat → ℕ = λ seat. one_if_holding (named_session sessions seat.last) in
     let g : Seat → ℕ = λ seat. one_if_holding (named_session (with_session sessions s new) seat.last) in
     let moved = sum_moved f g seats i x y there (λ j z apart e. ap one_if_holding (named_still sessions s new z.last (others j z apart e))) in
     let before : f x ≡ one_if_holding (map.get sessions s.0) = ap (λ (o : Option SessionId). one_if_holding (named_session sessions o)) last in
-    let after : g y ≡ one_if_any (keys_in new.stage) =
+    let after : g y ≡ one_if (has_any (keys_in new.stage)) =
     ap (λ (o : Option SessionId). one_if_holding (named_session (with_session sessions s new) o)) last' ∙ ap one_if_holding (get-with sessions s s new ∙ ap (λ (b : Bool). cond b (Some new) (map.get sessions s.0)) (eq-eqb s.0 s.0 refl)) in
     sym (ap (λ (n : ℕ). holders (slice_set seats i y) (with_session sessions s new) + n) before) ∙ moved ∙ ap (λ (n : ℕ). holders seats sessions + n) after
 

@@ -124,42 +124,31 @@ module _ (old new : Place) (is : SamePlace old new) where
       by false = tt
 
   -- what is made of the path's own row, where it passes a test on its kind
-  own_made : {B : Type 0} (test : Kind → Bool) (f : Inode → List B) → ((x y : Inode) → SameRow x y → f y ≡ f x) → (o p : Option Inode) → OptPair SameRow o p
-      → flat_map f (filter (λ (row : Inode). test row.kind) (option_to_list p)) ≡ flat_map f (filter (λ (row : Inode). test row.kind) (option_to_list o))
+  own_made : {B : Type 0} (test : Kind → Bool) (f : List Inode → List B) → ((x y : Inode) → SameRow x y → f (y ∷ []) ≡ f (x ∷ [])) → (o p : Option Inode) → OptPair SameRow o p
+      → f (filter (λ (row : Inode). test row.kind) (option_to_list p)) ≡ f (filter (λ (row : Inode). test row.kind) (option_to_list o))
   own_made test f same None None s = refl
   own_made test f same None (Some y) s = absurd s
   own_made test f same (Some x) None s = absurd s
-  own_made test f same (Some x) (Some y) s = ap (λ (b : Bool). flat_map f (cond b (y ∷ []) [])) (ap test s.kind) ∙ by (test x.kind)
+  own_made test f same (Some x) (Some y) s = ap (λ (b : Bool). f (cond b (y ∷ []) [])) (ap test s.kind) ∙ by (test x.kind)
     where
-      by : (b : Bool) → flat_map f (cond b (y ∷ []) []) ≡ flat_map f (cond b (x ∷ []) [])
-      by true = ap (λ zs. zs ++ []) (same x y s)
-      by false = refl
-
-  own_mapped : {B : Type 0} (test : Kind → Bool) (f : Inode → B) → ((x y : Inode) → SameRow x y → f y ≡ f x) → (o p : Option Inode) → OptPair SameRow o p
-      → list_map f (filter (λ (row : Inode). test row.kind) (option_to_list p)) ≡ list_map f (filter (λ (row : Inode). test row.kind) (option_to_list o))
-  own_mapped test f same None None s = refl
-  own_mapped test f same None (Some y) s = absurd s
-  own_mapped test f same (Some x) None s = absurd s
-  own_mapped test f same (Some x) (Some y) s = ap (λ (b : Bool). list_map f (cond b (y ∷ []) [])) (ap test s.kind) ∙ by (test x.kind)
-    where
-      by : (b : Bool) → list_map f (cond b (y ∷ []) []) ≡ list_map f (cond b (x ∷ []) [])
-      by true = ap (λ z. z ∷ []) (same x y s)
+      by : (b : Bool) → f (cond b (y ∷ []) []) ≡ f (cond b (x ∷ []) [])
+      by true = same x y s
       by false = refl
 
   lease-same : (client : ClientNo) → lease client new ≡ lease client old
-  lease-same client = own_mapped (λ (k : Kind). not (is_dir_kind k)) (λ (row : Inode). key.Lease client row.id) (λ x y s. ap (λ (i : InodeId). key.Lease client i) s.id) (own_row old) (own_row new) own_pair
+  lease-same client = own_made (λ (k : Kind). not (is_dir_kind k)) (list_map (λ (row : Inode). key.Lease client row.id)) (λ x y s. ap (λ (i : InodeId). key.Lease client i ∷ []) s.id) (own_row old) (own_row new) own_pair
 
   writer_lease-same : writer_lease new ≡ writer_lease old
-  writer_lease-same = own_made (λ (k : Kind). not (is_dir_kind k)) (λ (row : Inode). list_map (λ (w : ClientNo). key.Lease w row.id) (option_to_list row.writer))
-      (λ x y s. ap (λ (o : Option ClientNo). list_map (λ (w : ClientNo). key.Lease w y.id) (option_to_list o)) s.writer ∙ ap (λ (i : InodeId). list_map (λ (w : ClientNo). key.Lease w i) (option_to_list x.writer)) s.id)
+  writer_lease-same = own_made (λ (k : Kind). not (is_dir_kind k)) (flat_map (λ (row : Inode). list_map (λ (w : ClientNo). key.Lease w row.id) (option_to_list row.writer)))
+      (λ x y s. ap (λ ks. ks ++ []) (ap (λ (o : Option ClientNo). list_map (λ (w : ClientNo). key.Lease w y.id) (option_to_list o)) s.writer ∙ ap (λ (i : InodeId). list_map (λ (w : ClientNo). key.Lease w i) (option_to_list x.writer)) s.id))
       (own_row old) (own_row new) own_pair
 
   set_quota-same : list_map (λ (row : Inode). key.Quota row.id) (own_dir new) ≡ list_map (λ (row : Inode). key.Quota row.id) (own_dir old)
-  set_quota-same = own_mapped (λ (k : Kind). is_dir_kind k) (λ (row : Inode). key.Quota row.id) (λ x y s. ap (λ (i : InodeId). key.Quota i) s.id) (own_row old) (own_row new) own_pair
+  set_quota-same = own_made (λ (k : Kind). is_dir_kind k) (list_map (λ (row : Inode). key.Quota row.id)) (λ x y s. ap (λ (i : InodeId). key.Quota i ∷ []) s.id) (own_row old) (own_row new) own_pair
 
   usage-same : flat_map (λ (row : Inode). where_so row.has_quota (key.Quota row.id ∷ [])) (own_dir new) ≡ flat_map (λ (row : Inode). where_so row.has_quota (key.Quota row.id ∷ [])) (own_dir old)
-  usage-same = own_made (λ (k : Kind). is_dir_kind k) (λ (row : Inode). where_so row.has_quota (key.Quota row.id ∷ []))
-      (λ x y s. ap (λ (b : Bool). where_so b (key.Quota y.id ∷ [])) s.has_quota ∙ ap (λ (i : InodeId). where_so x.has_quota (key.Quota i ∷ [])) s.id)
+  usage-same = own_made (λ (k : Kind). is_dir_kind k) (flat_map (λ (row : Inode). where_so row.has_quota (key.Quota row.id ∷ [])))
+      (λ x y s. ap (λ ks. ks ++ []) (ap (λ (b : Bool). where_so b (key.Quota y.id ∷ [])) s.has_quota ∙ ap (λ (i : InodeId). where_so x.has_quota (key.Quota i ∷ [])) s.id))
       (own_row old) (own_row new) own_pair
 
   pub path_keys-same : (client : ClientNo) (asked : Call) → path_keys client asked new ≡ path_keys client asked old
@@ -243,7 +232,7 @@ inside_same (name ∷ names) destination (x ∷ []) (y ∷ []) all = refl
 inside_same (name ∷ names) destination (x ∷ []) (y ∷ z ∷ ys) all = absurd all.1
 inside_same (name ∷ names) destination (x ∷ w ∷ xs) (y ∷ []) all = absurd all.1
 inside_same (name ∷ names) destination (x ∷ w ∷ xs) (y ∷ z ∷ ys) all =
-    own_mapped w z all.1.0 (λ (k : Kind). is_dir_kind k) (λ (row : Inode). destination ++ last_name (name ∷ names) ∷ []) (λ a b s. refl) (own_row w) (own_row z) (own_pair w z all.1.0)
+    own_made w z all.1.0 (λ (k : Kind). is_dir_kind k) (list_map (λ (row : Inode). destination ++ last_name (name ∷ names) ∷ [])) (λ a b s. refl) (own_row w) (own_row z) (own_pair w z all.1.0)
 
 -- and the call has the same paths for them
 pub places_of-same : (asked : Call) (olds news : List Place) → AllPairs SamePlace olds news → places_of asked news ≡ places_of asked olds

@@ -1,5 +1,5 @@
 -- What the whole keeps inside, beside what is seen of it.
-use Rattle.std.specs.Prelude.{◌≡◌, ℕ, zero, suc, ◌+◌, ◌≤◌, List, [], ◌∷◌, length, Option, Some, None}
+use Rattle.std.specs.Prelude.{◌≡◌, ℕ, Bool, true, false, if◌then◌else◌, ◌+◌, ◌≤◌, List, [], ◌∷◌, length, Option, Some, None}
 use Rattle.std.specs.List.{sum_by}
 use Rattle.std.specs.FinMap as map
 use Rattle.hops_base.specs.declared.ids.SessionId.{SessionId}
@@ -26,15 +26,19 @@ whole_state tables settings notes next locks seats sessions = record {
   sessions = sessions;
 }
 
--- 1 where there are any, else 0
-abbrev pub one_if_any : {A : Type 0} → List A → ℕ
-one_if_any [] = 0
-one_if_any (x ∷ xs) = 1
+-- there are any
+abbrev pub has_any : {A : Type 0} → List A → Bool
+has_any [] = false
+has_any (x ∷ xs) = true
+
+-- 1 where it is so, else 0
+abbrev pub one_if : Bool → ℕ
+one_if so = if so then 1 else 0
 
 -- 1 where the session is there and holds a key, else 0
 abbrev pub one_if_holding : Option Session → ℕ
 one_if_holding None = 0
-one_if_holding (Some doing) = one_if_any (keys_in doing.stage)
+one_if_holding (Some doing) = one_if (has_any (keys_in doing.stage))
 
 -- the session of this number, where one is named
 abbrev pub named_session : Sessions → Option SessionId → Option Session
@@ -51,10 +55,10 @@ pub record IsCounted (seats : List Seat) (sessions : Sessions) (notes : List Not
   pub holding : keeping ≡ holders seats sessions
   pub room : length notes + keeping ≤ most
 
--- the note by which a session gives back what it holds, where it is said to hold anything
-abbrev pub gave_by : SessionId → ℕ → List Note
-gave_by s zero = []
-gave_by s (suc n) = Gave s ∷ []
+-- the note by which a session gives back what it holds, where it holds anything
+abbrev pub gave_by : SessionId → Bool → List Note
+gave_by s true = Gave s ∷ []
+gave_by s false = []
 
 -- what always holds of all that is kept
 pub record IsInside (state : State) (top : Key) (most counted keeping : ℕ) : Type 0 where

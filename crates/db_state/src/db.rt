@@ -2,12 +2,13 @@
 
 ghost use Rattle.std.specs.Prelude.{◌≡◌, true, false, ◌⊎◌, ◌+◌, ◌≤◌, ◌<◌, ◌^◌, ◌++◌, ℕ, List, Some, IfOk, IsSome, OnOk, OnErr, length, map as list_map, option_copied, slice_get, slice_set};
 ghost use Rattle.std.specs.FinMap as map;
-ghost use Rattle.row_locks.specs.Locks.{IsGivenBack};
-ghost use Rattle.row_store.specs.Children.{child_count, IsChildren};
+ghost use Rattle.row_locks.specs.Locks.{mode_of, IsGivenBack};
+ghost use Rattle.row_store.specs.Children.{child_count};
 ghost use Rattle.db_state.specs.Core.{IsCore};
+ghost use Rattle.db_state.specs.Current.{listed_under};
 ghost use Rattle.db_state.specs.Stands.{quota_of};
 ghost use Rattle.db_state.specs.Stored.{root_key};
-ghost use Rattle.db_state.specs.Inside.{gave_by};
+ghost use Rattle.db_state.specs.Inside.{gave_by, one_if};
 ghost use Rattle.db_state.specs.Stages.{progress_of, with_progress};
 ghost use Rattle.db_state.specs.State.{empty_seat, opening_state};
 ghost use Rattle.db_state.specs.Callers.{asked_key, IsAnswer, IsBehind, IsKeptAway, IsOpen, Takes};
@@ -16,22 +17,21 @@ ghost use Rattle.db_state.specs.declared.session.Stage.TheVariants.{Answered};
 ghost use Rattle.hops_base.specs.declared.key.Key.{Key};
 ghost use Rattle.hops_base.specs.declared.ids.Mode.{Mode};
 
+use crate::listing::listing_of;
 use crate::rows::{next_id, reserve_rows, write_rows};
 use crate::session::{Progress, Seat, Session, Stage};
 use crate::sessions::SessionTable;
 use crate::settings::Settings;
-use crate::store::{make_root_key, make_root_row};
 use crate::tables::Tables;
 use crate::writes::Writes;
 use commit_log::{Book, Cause, Note};
-use hops_base::{ClientNo, InodeId, ItemList, Key, Name, NoMemory, NodeNo, SessionId, User};
+use hops_base::{ClientNo, InodeId, ItemList, Key, Mode, Name, NoMemory, NodeNo, SessionId, User};
 use inode_table::Inode;
-use name_space::{Call, Reply};
+use name_space::{Call, Listing, Reply};
 use quota_table::QuotaRow;
 use row_locks::{Ask, LockTable};
 use std::alloc::Global;
 use std::marker::Model;
-use std::slice;
 
 /// The tables and the book, the locks, and the clients' seats and sessions. What always holds of them is kept by every
 /// call: there is one for each kind of change, and each asks for what its kind must show.
@@ -77,15 +77,10 @@ impl Db {
     pub fn start(alloc: Global, settings: &Settings) -> Result<Db, NoMemory>
         ensures { IfOk result (λ db. db ≡ opening_state settings.now) }
     {
-        let top = make_root_key(alloc)?;
-        let key = top.copy()?;
-        let row = make_root_row(alloc)?;
+        let (tables, top) = Tables::opening(alloc)?;
         let settings = settings.copy()?;
         let locks = LockTable::new(alloc)?;
         let seats = empty_seats(alloc, settings.users())?;
-        let mut tables = Tables::new(alloc)?;
-        tables.inodes.reserve(slice::from_ref(&key))?;
-        tables.inodes.insert(key, row);
         Ok(Db {
             alloc,
             tables,
@@ -143,11 +138,19 @@ impl Db {
         self.tables.inodes.child_count(parent)
     }
 
-    /// The names of the inode rows below a parent, rising.
-    pub fn children(&self, parent: InodeId) -> Result<Vec<Name>, NoMemory>
-        ensures { IfOk result (λ names. IsChildren self.now.stored.inodes parent names.items) }
+    /// What is told of each inode row below a parent, in the order of their names. It is empty exactly where there is
+    /// none, as below a file.
+    pub fn listing(&self, parent: InodeId) -> Result<Listing, NoMemory>
+        ensures { IfOk result (λ listing. listing.items ≡ listed_under self.now.stored.inodes parent) }
     {
-        self.tables.inodes.children(parent)
+        listing_of(self.alloc, &self.tables.inodes, parent)
+    }
+
+    /// How a session holds a key. None exactly where it doesn't hold it. It takes no memory.
+    pub fn holds(&self, s: SessionId, key: &Key) -> Option<Mode>
+        ensures { result ≡ mode_of self.now.locks s key.now }
+    {
+        self.locks.holds(s, key)
     }
 
     /// The next free inode id.
@@ -210,7 +213,7 @@ impl Db {
         }
         self.book.push(Note::Took(s, key, mode));
         self.sessions.count(s);
-        self.holding += 1 - held;
+        self.holding += one_if(!held);
         Ask::Held
     }
 
@@ -282,7 +285,7 @@ impl Db {
         make_room(&mut self.book, self.holding, 1)?;
         give_up(&mut self.book, &mut self.locks, s, held);
         self.book.push(Note::Met(s, Cause::Changed(since)));
-        self.holding -= held;
+        self.holding -= one_if(held);
         self.sessions
             .begin_at(s, self.book.len(), start_of_attempt(self.alloc));
         Ok(())
@@ -299,7 +302,7 @@ impl Db {
         };
         let held = doing.stage.holds_any();
         give_up(&mut self.book, &mut self.locks, s, held);
-        self.holding -= held;
+        self.holding -= one_if(held);
         self.sessions.begin_at(s, self.book.len(), stage);
     }
 
@@ -308,12 +311,12 @@ impl Db {
         &mut self,
         client: ClientNo,
         number: u32,
-        call: Call,
+        call: &Call,
         node: NodeNo,
     ) -> Result<SessionId, NoMemory>
-        requires { CanOpen self.old client number call node }
+        requires { CanOpen self.old client number call.now node }
         ensures session { IfOk result (λ s. s ≡ next_session self.old) }
-        ensures ok { OnOk result (self.new ≡ opened_by self.old client number call node) }
+        ensures ok { OnOk result (self.new ≡ opened_by self.old client number call.now node) }
         ensures err { OnErr result (self.new ≡ begun_by self.old client number) }
     {
         let seat = seat_at(&self.seats, client);
@@ -325,10 +328,8 @@ impl Db {
                 ..seat
             },
         );
-        let Ok(()) = make_room(&mut self.book, self.holding, 1) else {
-            drop_call(call);
-            return Err(NoMemory);
-        };
+        let call = call.copy()?;
+        make_room(&mut self.book, self.holding, 1)?;
         let s = SessionId(self.opened + 1);
         let opened = self.book.len();
         self.sessions.put(
@@ -366,7 +367,7 @@ impl Db {
         self.next = next_id(self.next, writes.as_slice());
         write_rows(&mut self.tables, writes.into_vec());
         self.book.push(note);
-        self.holding -= held;
+        self.holding -= one_if(held);
         self.locks.give_all(s);
         let seat = seat_at(&self.seats, client);
         set_seat(
@@ -423,15 +424,22 @@ fn remove_last(sessions: &mut SessionTable, last: Option<SessionId>)
 }
 
 // Gives back what a session holds, with a note where that is anything.
-fn give_up(book: &mut Book, table: &mut LockTable, s: SessionId, held: u64)
-    requires { length book.old.notes + held ≤ book.old.room }
+fn give_up(book: &mut Book, table: &mut LockTable, s: SessionId, held: bool)
+    requires { length book.old.notes + one_if held ≤ book.old.room }
     ensures book { book.new ≡ record book.old { notes = book.old.notes ++ gave_by s held } }
     ensures locks { IsGivenBack s table.old table.new }
 {
-    if held > 0 {
+    if held {
         book.push(Note::Gave(s));
     }
     table.give_all(s);
+}
+
+// 1 where it is so, else 0.
+fn one_if(so: bool) -> u64
+    ensures { result ≡ one_if so }
+{
+    u64::from(so)
 }
 
 // Makes room in the book for so many notes more, beside those that give back what is held.
@@ -479,5 +487,3 @@ fn start_of_attempt(alloc: Global) -> Stage
 {
     Stage::Resolve(ItemList::new(alloc), ItemList::new(alloc))
 }
-
-fn drop_call(_call: Call) {}

@@ -3,7 +3,7 @@
 //! It stands on `inode_table`, `quota_table` and `commit_log`. It promises that a commit takes all its memory before
 //! its first write, so that it either writes its rows and its notes or changes nothing; that the rows and the book are
 //! always consistent: the rows spell a tree that stands for the namespace to which the history in the book leads, with
-//! the history's ids, and quota rows that count it; that [`tree_of`] is that namespace; and that [`listing_of`] tells
+//! the history's ids, and quota rows that count it; that [`tree_of`] is that namespace; and that [`Db::listing`] tells
 //! the rows under a row, which are the children of its path. It says what a view must be to be current, which place the
 //! rows have for a path, and what the outcome of a call promises. Laws of rows are functions with empty bodies in
 //! `laws` and `row_laws`, and those of what sessions have read and hold in `read_laws`. For sessions that run beside each
@@ -34,7 +34,7 @@ mod writes;
 
 pub use db::Db;
 pub use directory::new_dir;
-pub use listing::{listing_of, status_of};
+pub use listing::status_of;
 pub use outcome::Outcome;
 pub use session::{Phase, Progress, Reads, Seat, Session, Stage, Trail};
 pub use settings::Settings;

@@ -5,21 +5,20 @@ ghost use Rattle.std.specs.FinMap as map;
 ghost use Rattle.hops_base.specs.declared.key.Key.TheVariants as key;
 ghost use Rattle.db_state.specs.Current.{listed_row, listed_under, status_of_kind};
 
-use crate::store::Store;
 use hops_base::{InodeId, Key, Name, NoMemory};
-use inode_table::{Inode, Kind};
+use inode_table::{Inode, InodeTable, Kind};
 use name_space::{FileStatus, Listed, Listing};
 use std::alloc::Global;
 
 /// What is told of each row under this row, in the order of their names. It is empty exactly where there is
 /// none, as under a file.
-pub fn listing_of(alloc: Global, db: &Store, parent: InodeId) -> Result<Listing, NoMemory>
-    ensures { IfOk result (λ listing. listing.items ≡ listed_under db.now.inodes parent) }
+pub fn listing_of(alloc: Global, inodes: &InodeTable, parent: InodeId) -> Result<Listing, NoMemory>
+    ensures { IfOk result (λ listing. listing.items ≡ listed_under inodes.now.rows parent) }
 {
-    let names = db.children(parent)?;
+    let names = inodes.children(parent)?;
     let mut listing = Listing::new(alloc);
     for name in names {
-        if let Some(listed) = listed_at(db, parent, name)? {
+        if let Some(listed) = listed_at(inodes, parent, name)? {
             listing.reserve(1)?;
             listing.push(listed);
         }
@@ -28,11 +27,11 @@ pub fn listing_of(alloc: Global, db: &Store, parent: InodeId) -> Result<Listing,
 }
 
 // What is told of the row of this name under a row. None where there is no such row.
-fn listed_at(db: &Store, parent: InodeId, name: Name) -> Result<Option<Listed>, NoMemory>
-    ensures { IfOk result (λ listed. listed ≡ option_map (listed_row name) (map.get db.now.inodes (key.Inode parent name))) }
+fn listed_at(inodes: &InodeTable, parent: InodeId, name: Name) -> Result<Option<Listed>, NoMemory>
+    ensures { IfOk result (λ listed. listed ≡ option_map (listed_row name) (map.get inodes.now.rows (key.Inode parent name))) }
 {
     let key = Key::Inode(parent, name.copy()?);
-    let Some(row) = db.inode(&key) else {
+    let Some(row) = inodes.row(&key) else {
         return Ok(None);
     };
     let status = status_of(row)?;

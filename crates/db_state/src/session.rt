@@ -2,7 +2,7 @@
 
 ghost use Rattle.std.specs.Prelude.{◌≡◌, option_map};
 ghost use Rattle.row_locks.specs.Plans.{place_seen};
-ghost use Rattle.db_state.specs.Inside.{one_if_any};
+ghost use Rattle.db_state.specs.Inside.{has_any};
 ghost use Rattle.db_state.specs.Stages.{keys_in, next_key, phase_of};
 
 use crate::view::{FoundList, PlaceList, QuotaList};
@@ -121,16 +121,15 @@ impl Stage {
         }
     }
 
-    /// 1 where the session holds any key, else 0. It takes no memory.
-    pub fn holds_any(&self) -> u64
-        ensures { result ≡ one_if_any (keys_in self.now) }
+    /// Whether the session holds any key. It takes no memory.
+    pub fn holds_any(&self) -> bool
+        ensures { result ≡ has_any (keys_in self.now) }
     {
         match self {
-            Stage::Lock(_, plan, taken) => plan.len().min(*taken).min(1),
-            Stage::Read(_, plan) | Stage::Reread(_, plan) | Stage::Commit(_, plan) => plan
-                .len()
-                .min(1),
-            Stage::Resolve(..) | Stage::Answered => 0,
+            Stage::Lock(_, plan, taken) => *taken > 0 && plan.len() > 0,
+            Stage::Read(_, plan) | Stage::Reread(_, plan) | Stage::Commit(_, plan) => plan.len()
+                > 0,
+            Stage::Resolve(..) | Stage::Answered => false,
         }
     }
 }

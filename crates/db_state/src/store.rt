@@ -5,10 +5,11 @@ ghost use Rattle.std.specs.FinMap as map;
 ghost use Rattle.row_store.specs.Children.{child_count, IsChildren};
 ghost use Rattle.db_state.specs.Stored.{opening_stored, root_key, root_row};
 ghost use Rattle.db_state.specs.Consistent.{IsConsistent};
+ghost use Rattle.db_state.specs.Current.{listed_under};
 ghost use Rattle.db_state.specs.Stands.{quota_of};
 ghost use Rattle.db_state.specs.Written.{committed, next_after};
 
-use crate::directory::new_dir;
+use crate::listing::listing_of;
 use crate::rows::{next_id, reserve_rows, write_notes, write_rows};
 use crate::settings::Settings;
 use crate::tables::Tables;
@@ -16,10 +17,10 @@ use crate::writes::Writes;
 use commit_log::{Book, Note};
 use hops_base::{ClientNo, InodeId, Key, Name, NoMemory, User};
 use inode_table::Inode;
+use name_space::Listing;
 use quota_table::QuotaRow;
 use std::alloc::Global;
 use std::marker::Model;
-use std::slice;
 
 /// The tables, the settings, the book, and the next free inode id. The rows and the book are always consistent: the
 /// rows stand for the namespace to which the history in the book leads, with its ids and its counts.
@@ -55,13 +56,8 @@ impl Store {
     pub fn start(alloc: Global, settings: &Settings) -> Result<Store, NoMemory>
         ensures { IfOk result (λ db. db ≡ opening_stored settings.now) }
     {
-        let top = make_root_key(alloc)?;
-        let key = top.copy()?;
-        let row = make_root_row(alloc)?;
+        let (tables, top) = Tables::opening(alloc)?;
         let settings = settings.copy()?;
-        let mut tables = Tables::new(alloc)?;
-        tables.inodes.reserve(slice::from_ref(&key))?;
-        tables.inodes.insert(key, row);
         Ok(Store {
             tables,
             top,
@@ -126,6 +122,14 @@ impl Store {
         self.tables.inodes.child_count(parent)
     }
 
+    /// What is told of each inode row below a parent, in the order of their names. It is empty exactly where there is
+    /// none, as below a file.
+    pub fn listing(&self, alloc: Global, parent: InodeId) -> Result<Listing, NoMemory>
+        ensures { IfOk result (λ listing. listing.items ≡ listed_under self.now.inodes parent) }
+    {
+        listing_of(alloc, &self.tables.inodes, parent)
+    }
+
     /// The names of the inode rows below a parent, rising.
     pub fn children(&self, parent: InodeId) -> Result<Vec<Name>, NoMemory>
         ensures { IfOk result (λ names. IsChildren self.now.inodes parent names.items) }
@@ -168,25 +172,5 @@ impl Store {
         write_rows(&mut self.tables, writes.into_vec());
         write_notes(&mut self.book, notes);
         Ok(())
-    }
-}
-
-/// The key of the root's row.
-pub fn make_root_key(alloc: Global) -> Result<Key, NoMemory>
-    ensures { IfOk result (λ key. key ≡ root_key) }
-{
-    match Name::read(alloc, "root") {
-        Ok(name) => Ok(Key::Inode(InodeId(0), name)),
-        Err(_) => Err(NoMemory),
-    }
-}
-
-/// The root's row.
-pub fn make_root_row(alloc: Global) -> Result<Inode, NoMemory>
-    ensures { IfOk result (λ row. row ≡ root_row) }
-{
-    match User::read(alloc, "hdfs") {
-        Ok(owner) => Ok(new_dir(InodeId(1), owner)),
-        Err(_) => Err(NoMemory),
     }
 }

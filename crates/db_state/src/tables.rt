@@ -3,11 +3,13 @@
 ghost use Rattle.std.specs.Prelude.{◌≡◌, true, IfOk, OnOk};
 ghost use Rattle.std.specs.FinMap as map;
 ghost use Rattle.row_store.specs.Table.{has_place};
+ghost use Rattle.db_state.specs.Stored.{opening_rows, root_key, root_row};
 ghost use Rattle.db_state.specs.Written.{with_row};
 ghost use Rattle.db_state.specs.Places.{rows_of, is_placed, SamePlaces, SameOfTable, KeepsPlaces};
 
+use crate::directory::new_dir;
 use crate::writes::Row;
-use hops_base::{Key, NoMemory};
+use hops_base::{InodeId, Key, Name, NoMemory, User};
 use inode_table::{Inode, InodeTable};
 use quota_table::{QuotaRow, QuotaTable};
 use std::alloc::Global;
@@ -30,6 +32,41 @@ impl Tables {
             inodes: InodeTable::new(alloc)?,
             quotas: QuotaTable::new(alloc)?,
         })
+    }
+
+    /// The rows before anything happened, the root's alone, and its key.
+    pub fn opening(alloc: Global) -> Result<(Tables, Key), NoMemory>
+        ensures inodes { IfOk result (λ opening. opening.0.inodes.rows ≡ opening_rows) }
+        ensures quotas { IfOk result (λ opening. opening.0.quotas.rows ≡ map.empty) }
+        ensures top { IfOk result (λ opening. opening.1 ≡ root_key) }
+    {
+        let top = root_key(alloc)?;
+        let key = top.copy()?;
+        let row = root_row(alloc)?;
+        let mut tables = Tables::new(alloc)?;
+        tables.inodes.reserve(slice::from_ref(&key))?;
+        tables.inodes.insert(key, row);
+        Ok((tables, top))
+    }
+}
+
+// The key of the root's row.
+fn root_key(alloc: Global) -> Result<Key, NoMemory>
+    ensures { IfOk result (λ key. key ≡ root_key) }
+{
+    match Name::read(alloc, "root") {
+        Ok(name) => Ok(Key::Inode(InodeId(0), name)),
+        Err(_) => Err(NoMemory),
+    }
+}
+
+// The root's row.
+fn root_row(alloc: Global) -> Result<Inode, NoMemory>
+    ensures { IfOk result (λ row. row ≡ root_row) }
+{
+    match User::read(alloc, "hdfs") {
+        Ok(owner) => Ok(new_dir(InodeId(1), owner)),
+        Err(_) => Err(NoMemory),
     }
 }
 

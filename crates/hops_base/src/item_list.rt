@@ -55,6 +55,14 @@ impl<T> ItemList<T> {
         }
     }
 
+    /// The list of these items, without room for more. It takes no memory.
+    pub fn from_vec(list: Vec<T>) -> ItemList<T>
+        ensures { result ≡ record { items = list.items; room = length list.items } }
+    {
+        let room = list.len();
+        ItemList { list, room }
+    }
+
     /// How many items it has.
     pub fn len(&self) -> u64
         ensures { result ≡ length self.now.items }

@@ -9,7 +9,7 @@ ghost use Rattle.name_space.specs.Call.{is_valid, paths_of};
 ghost use Rattle.hops_cli.specs.Built.{is_built};
 ghost use Rattle.hops_cli.specs.Reading.{IsRead, IsResolved, IsViewAt};
 
-use db_state::{FoundList, Place, PlaceList, QuotaList, Store, View, listing_of};
+use db_state::{FoundList, Place, PlaceList, QuotaList, Store, View};
 use hops_base::{ItemList, Key, Name, NoMemory, Path};
 use inode_table::{Inode, Kind};
 use name_space::{Call, Listing};
@@ -63,7 +63,7 @@ fn children_of(alloc: Global, db: &Store, call: &Call, place: &Place) -> Result<
         return Ok(Listing::new(alloc));
     };
     match own_dir(place) {
-        Some(row) => listing_of(alloc, db, row.id),
+        Some(row) => db.listing(alloc, row.id),
         None => Ok(Listing::new(alloc)),
     }
 }

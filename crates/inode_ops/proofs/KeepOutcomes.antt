@@ -37,11 +37,11 @@ use Rattle.inode_ops.specs.ChmodSteps.{row_with_mode, IsModeSet}
 use Rattle.inode_ops.specs.CreateSteps.{overwritten, IsFiledUnless, IsOverwritten, CreateOf, AnswersCreate}
 use Rattle.inode_ops.specs.DeleteSteps.{removals, RemovesLast, DeleteOf, AnswersDelete}
 use Rattle.inode_ops.specs.NewFile.{new_file_rows}
-use Rattle.inode_ops.specs.Outcomes.{path_of, IsViewOf, IsKeptOf}
+use Rattle.inode_ops.specs.Outcomes.{IsViewOf, IsKeptOf}
 use Rattle.inode_ops.specs.QuotaSteps.{first_full, GoesOnCounted}
 use Rattle.inode_ops.specs.Steps.{missing_names, IsTold, IsMadeUnless, MkdirsOf, AnswersMkdirs, StatOf, AnswersStat}
 use Rattle.inode_ops.proofs.KeepLemmas.{Keeps, none_keeps, counted_keeps, keeps_file, removals_keep, owns_parent}
-use Rattle.inode_ops.proofs.OutcomeLemmas.{view_has}
+use Rattle.inode_ops.proofs.OutcomeLemmas.{of_path}
 use Rattle.inode_ops.proofs.OwnLemmas.{own_is, own_among}
 use Rattle.inode_ops.proofs.OwnOutcomes.{all_own, sees_of, rows_of, last_is, low_may, low_in, mkdirs_keys, create_keys, delete_keys}
 use Rattle.inode_ops.proofs.PlaceLemmas.{IsWalk, deepest_from, some_deepest}
@@ -107,11 +107,9 @@ mkdirs_keep view client user place one (Answer reply writes) answers = λ tables
 
 pub mkdirs_keeps : (view : View) (client : ClientNo) (user : List ℕ) (asked : Call) (place : Place) (path : List (List ℕ)) (seen : List (InodeId × QuotaRow)) (r : Result Outcome NoMemory) → IsViewOf view asked → slice_get view.places.items 0 ≡ Some place → asked ≡ call.Mkdirs path → seen ≡ view.quotas.items
     → IfOk r (AnswersMkdirs place seen view.next.0 user) → IfOk r (KeepsOthers view client asked)
-mkdirs_keeps view client user asked place path seen (Err e) is first call_is same answers = tt
-mkdirs_keeps view client user asked place path seen (Ok outcome) is first call_is same answers =
-    let has = view_has view asked place path is first (ap path_of call_is) in
-    let call_was : call.Mkdirs place.path ≡ asked = ap call.Mkdirs has.1 ∙ sym call_is in
-    subst (λ (c : Call). KeepsOthers view client c outcome) call_was (mkdirs_keep view client user place has.0 outcome (subst (λ (s : List (InodeId × QuotaRow)). AnswersMkdirs place s view.next.0 user outcome) same answers))
+mkdirs_keeps view client user asked place path seen r is first call_is same answers =
+    of_path view asked call.Mkdirs place path is first call_is refl (KeepsOthers view client) (AnswersMkdirs place seen view.next.0 user)
+    (λ one spells outcome answer. mkdirs_keep view client user place one outcome (subst (λ (s : List (InodeId × QuotaRow)). AnswersMkdirs place s view.next.0 user outcome) same answer)) r answers
 
 -- ---- `stat`
 
@@ -122,11 +120,10 @@ stat_keep view client asked false last (Answer reply writes) is = λ tables own 
 
 pub stat_keeps : (view : View) (client : ClientNo) (asked : Call) (place : Place) (path : List (List ℕ)) (r : Result Outcome NoMemory) → IsViewOf view asked → slice_get view.places.items 0 ≡ Some place → asked ≡ call.Stat path
     → IfOk r (AnswersStat place) → IfOk r (KeepsOthers view client asked)
-stat_keeps view client asked place path (Err e) is first call_is answers = tt
-stat_keeps view client asked place path (Ok outcome) is first call_is answers =
-    let has = view_has view asked place path is first (ap path_of call_is) in
-    let last = some_deepest place has.2 in
-    stat_keep view client asked (is_whole place) last.0 outcome (subst (λ (o : Option Inode). IfSome o (λ last. StatOf (is_whole place) last outcome)) last.1 answers)
+stat_keeps view client asked place path r is first call_is answers =
+    of_path view asked call.Stat place path is first call_is refl (λ c. KeepsOthers view client asked) (AnswersStat place)
+    (λ one spells outcome answer. let last = some_deepest place spells in
+    stat_keep view client asked (is_whole place) last.0 outcome (subst (λ (o : Option Inode). IfSome o (λ last. StatOf (is_whole place) last outcome)) last.1 answer)) r answers
 
 -- ---- `create`
 
@@ -166,10 +163,9 @@ create_keep view client user overwrite place one (Answer reply writes) answers =
 
 pub create_keeps : (view : View) (client : ClientNo) (user : List ℕ) (path : List (List ℕ)) (overwrite : Bool) (place : Place) (r : Result Outcome NoMemory) → IsViewOf view (call.Create path overwrite) → slice_get view.places.items 0 ≡ Some place
     → IfOk r (AnswersCreate place view client user overwrite) → IfOk r (KeepsOthers view client (call.Create path overwrite))
-create_keeps view client user path overwrite place (Err e) is first answers = tt
-create_keeps view client user path overwrite place (Ok outcome) is first answers =
-    let has = view_has view (call.Create path overwrite) place path is first refl in
-    subst (λ (p : List (List ℕ)). KeepsOthers view client (call.Create p overwrite) outcome) has.1 (create_keep view client user overwrite place has.0 outcome answers)
+create_keeps view client user path overwrite place r is first answers =
+    of_path view (call.Create path overwrite) (λ p. call.Create p overwrite) place path is first refl refl (KeepsOthers view client) (AnswersCreate place view client user overwrite)
+    (λ one spells outcome answer. create_keep view client user overwrite place one outcome answer) r answers
 
 -- ---- `delete`
 
@@ -207,10 +203,9 @@ delete_keep view client place one (Answer reply writes) answers = λ tables own 
 
 pub delete_keeps : (view : View) (place : Place) (path : List (List ℕ)) (seen : List (InodeId × QuotaRow)) (r : Result Outcome NoMemory) → IsViewOf view (call.Delete path false) → slice_get view.places.items 0 ≡ Some place → seen ≡ view.quotas.items
     → IfOk r (AnswersDelete place seen) → IfOk r (IsKeptOf view (call.Delete path false))
-delete_keeps view place path seen (Err e) is first same answers = tt
-delete_keeps view place path seen (Ok outcome) is first same answers = λ client.
-    let has = view_has view (call.Delete path false) place path is first refl in
-    subst (λ (p : List (List ℕ)). KeepsOthers view client (call.Delete p false) outcome) has.1 (delete_keep view client place has.0 outcome (subst (λ (s : List (InodeId × QuotaRow)). AnswersDelete place s outcome) same answers))
+delete_keeps view place path seen r is first same answers =
+    of_path view (call.Delete path false) (λ p. call.Delete p false) place path is first refl refl (IsKeptOf view) (AnswersDelete place seen)
+    (λ one spells outcome answer client. delete_keep view client place one outcome (subst (λ (s : List (InodeId × QuotaRow)). AnswersDelete place s outcome) same answer)) r answers
 
 -- ---- `chmod`
 
@@ -226,7 +221,6 @@ mode_keep view client bits place one (Answer reply writes) is = λ tables own cu
 
 pub mode_keeps : (view : View) (path : List (List ℕ)) (bits : ℕ) (place : Place) (r : Result Outcome NoMemory) → IsViewOf view (call.Chmod path bits) → slice_get view.places.items 0 ≡ Some place
     → IfOk r (IsModeSet (last_found place) bits) → IfOk r (IsKeptOf view (call.Chmod path bits))
-mode_keeps view path bits place (Err e) is first done = tt
-mode_keeps view path bits place (Ok outcome) is first done = λ client.
-    let has = view_has view (call.Chmod path bits) place path is first refl in
-    subst (λ (p : List (List ℕ)). KeepsOthers view client (call.Chmod p bits) outcome) has.1 (mode_keep view client bits place has.0 outcome done)
+mode_keeps view path bits place r is first done =
+    of_path view (call.Chmod path bits) (λ p. call.Chmod p bits) place path is first refl refl (IsKeptOf view) (IsModeSet (last_found place) bits)
+    (λ one spells outcome answer client. mode_keep view client bits place one outcome answer) r done

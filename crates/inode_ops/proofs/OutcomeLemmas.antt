@@ -261,18 +261,22 @@ view_has view asked place path is first named =
     let of = subst (λ (o : Option Place). IfSome o (λ place. (path_of asked ≡ Some place.path) × Suits asked place view.quotas.items view.next.0)) first is.place in
     (one_item view.places.items place is.only first, (let same : Some place.path ≡ Some path = sym of.0 ∙ named in cc), of.1.spells)
 
+-- what follows of each outcome of a call of the place's path follows of that of the call that was made, which is of this path
+pub of_path : (view : View) (asked : Call) (call_at : List (List ℕ) → Call) (place : Place) (path : List (List ℕ)) → IsViewOf view asked → slice_get view.places.items 0 ≡ Some place → asked ≡ call_at path → path_of (call_at path) ≡ Some path
+    → (P : Call → Outcome → Type 0) (A : Outcome → Type 0) → (view.places.items ≡ place ∷ [] → SpellsPlace place → (outcome : Outcome) → A outcome → P (call_at place.path) outcome)
+    → (r : Result Outcome NoMemory) → IfOk r A → IfOk r (P asked)
+of_path view asked call_at place path is first call_is named P A gives (Err e) answers = tt
+of_path view asked call_at place path is first call_is named P A gives (Ok outcome) answers =
+    let has = view_has view asked place path is first (ap path_of call_is ∙ named) in
+    subst (λ (c : Call). P c outcome) (ap call_at has.1 ∙ sym call_is) (gives has.0 has.2 outcome answers)
+
 pub mkdirs_result : (view : View) (client : ClientNo) (user : List ℕ) (asked : Call) (place : Place) (path : List (List ℕ)) (seen : List (InodeId × QuotaRow)) (r : Result Outcome NoMemory) → IsViewOf view asked → slice_get view.places.items 0 ≡ Some place → asked ≡ call.Mkdirs path → seen ≡ view.quotas.items
     → IfOk r (AnswersMkdirs place seen view.next.0 user) → IfOk r (IsCallsTable view client user asked)
-mkdirs_result view client user asked place path seen (Err e) is first call_is same answers = tt
-mkdirs_result view client user asked place path seen (Ok outcome) is first call_is same answers =
-    let has = view_has view asked place path is first (ap path_of call_is) in
-    let call_was : call.Mkdirs place.path ≡ asked = ap call.Mkdirs has.1 ∙ sym call_is in
-    subst (λ (c : Call). IsCallsTable view client user c outcome) call_was (mkdirs_outcome view client user place has.0 has.2 outcome (subst (λ (s : List (InodeId × QuotaRow)). AnswersMkdirs place s view.next.0 user outcome) same answers))
+mkdirs_result view client user asked place path seen r is first call_is same answers =
+    of_path view asked call.Mkdirs place path is first call_is refl (IsCallsTable view client user) (AnswersMkdirs place seen view.next.0 user)
+    (λ one spells outcome answer. mkdirs_outcome view client user place one spells outcome (subst (λ (s : List (InodeId × QuotaRow)). AnswersMkdirs place s view.next.0 user outcome) same answer)) r answers
 
 pub stat_result : (view : View) (client : ClientNo) (user : List ℕ) (asked : Call) (place : Place) (path : List (List ℕ)) (r : Result Outcome NoMemory) → IsViewOf view asked → slice_get view.places.items 0 ≡ Some place → asked ≡ call.Stat path
     → IfOk r (AnswersStat place) → IfOk r (IsCallsTable view client user asked)
-stat_result view client user asked place path (Err e) is first call_is answers = tt
-stat_result view client user asked place path (Ok outcome) is first call_is answers =
-    let has = view_has view asked place path is first (ap path_of call_is) in
-    let call_was : call.Stat place.path ≡ asked = ap call.Stat has.1 ∙ sym call_is in
-    subst (λ (c : Call). IsCallsTable view client user c outcome) call_was (stat_outcome view client user place has.0 has.2 outcome answers)
+stat_result view client user asked place path r is first call_is answers =
+    of_path view asked call.Stat place path is first call_is refl (IsCallsTable view client user) (AnswersStat place) (λ one spells outcome answer. stat_outcome view client user place one spells outcome answer) r answers
