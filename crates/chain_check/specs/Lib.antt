@@ -1,0 +1,4 @@
+pub mod Passing
+pub mod Rereading
+pub mod Rows
+pub mod Search
