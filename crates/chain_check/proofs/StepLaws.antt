@@ -6,7 +6,7 @@ use Rattle.hops_base.specs.declared.ids.SessionId.{SessionId}
 use Rattle.hops_base.specs.declared.key.Key.{Key}
 use Rattle.inode_table.specs.declared.inode.Inode.{Inode}
 use Rattle.row_locks.specs.Plans.{planned_mode}
-use Rattle.db_state.specs.declared.session.Progress.{Progress}
+use Rattle.db_state.specs.declared.session.Position.{Position}
 use Rattle.db_state.specs.declared.session.Session.{Session}
 use Rattle.db_state.specs.declared.session.Stage.{Stage}
 use Rattle.db_state.specs.declared.session.Stage.TheVariants.{Reread, Commit}
@@ -19,7 +19,7 @@ use Rattle.db_state.specs.Reads.{Reads, AllStand, IsChain}
 use Rattle.db_state.specs.ReadSteps.{IsFoundAgain}
 use Rattle.db_state.specs.Holding.{StandsIn}
 use Rattle.db_state.specs.SessionParts.{asked_in, AreQuotasSeen, IsPlanned, IsStillFound}
-use Rattle.db_state.specs.Stages.{keys_in, progress_of, with_progress}
+use Rattle.db_state.specs.Stages.{keys_in, position_of, with_position}
 use Rattle.db_state.specs.State.{State}
 use Rattle.db_state.specs.Steps.{moved_by, CanMove, IsRunning}
 use Rattle.db_state.proofs.MoveLaws.{holds_by_stage}
@@ -30,7 +30,8 @@ use Rattle.chain_check.specs.declared.row.Halt.{Halt}
 use Rattle.chain_check.specs.declared.row.Halt.TheVariants as halt
 use Rattle.chain_check.specs.declared.search.Spot.{Spot}
 use Rattle.chain_check.specs.Passing.{lowest, lowered_to, stage_past, told_of, told_past, HasSome, IsHalt, IsPassed, IsPast}
-use Rattle.chain_check.specs.Rereading.{HasLeft, IsStep}
+use Rattle.chain_check.specs.Rereading.{HasLeft, IsRereadStep}
+use Rattle.chain_check.specs.Rows.{IsPlain}
 use Rattle.chain_check.specs.Search.{is_held, AreMarked, IsNext, IsNextAt, LeavesAny, LeavesNone}
 use Rattle.chain_check.proofs.SpotLaws.{order, get_set_same, get_set_other}
 use Rattle.chain_check.proofs.LeftLaws.{some_at, planned_locked, none_left, next_left, left_lowest}
@@ -95,7 +96,10 @@ module _ (state : State) (s : SessionId) (doing : Session) (reads : Reads) (keys
         let chain = all_at (IsChain (plan doing.client doing.call reads.places) None) reads.places spot.place at.place reading.1.reads.chains at.placed in
         has_read reads keys (plan doing.client doing.call reads.places) None spot.place at.place at.placed chain second.0 second.1
 
-    module _ (again : IsFoundAgain state.stored.inodes at.next.row) where
+    module _ (plain : IsPlain state.stored.inodes at.next.row) where
+      again : IsFoundAgain state.stored.inodes at.next.row
+      again = plain.again
+
       stand_then : AllStand state.stored.inodes (plan doing.client doing.call reads.places) (set reads.marks spot.place spot.row) reads.places
       stand_then = stand_past state.stored.inodes state.locks s (plan doing.client doing.call reads.places) holds_locked reads.marks reads.places spot at again reading.1.stand.chains
 
@@ -162,18 +166,19 @@ module _ (state : State) (s : SessionId) (doing : Session) (reads : Reads) (keys
       -- so it goes on, as it is told
       goes_to : (any : Bool) → LeavesAny state.locks s reads.marks reads.places spot any
           → CanMove state s doing (record doing { stage = stage_past reads keys spot any })
-          × IsStep state s doing reads keys (told_past any) (moved_by state s (record doing { stage = stage_past reads keys spot any }))
+          × IsRereadStep state s doing reads keys (told_past any) (moved_by state s (record doing { stage = stage_past reads keys spot any }))
+      unfolding one again
       goes_to any after = go any after.0 after.1 after.2
         where
           go : (any : Bool) (next : Option Spot) → any ≡ is_some next → IsNext state.locks s (set reads.marks spot.place spot.row) reads.places 0 next
               → CanMove state s doing (record doing { stage = stage_past reads keys spot any })
-              × IsStep state s doing reads keys (told_past any) (moved_by state s (record doing { stage = stage_past reads keys spot any }))
+              × IsRereadStep state s doing reads keys (told_past any) (moved_by state s (record doing { stage = stage_past reads keys spot any }))
           go true None is next = absurd (let bad = is in cc)
           go false (Some later) is next = absurd (let bad = is in cc)
           go true (Some later) is next =
               let left = next_left state.locks s keys holds (set reads.marks spot.place spot.row) reads.places marked_then later next in
               let some : left_of_all keys (set reads.marks spot.place spot.row) reads.places ≢ [] = λ none. (let bad = sym left ∙ none in cc) in
-              (more some, (lowered_to reads spot, some, record { one = one (set reads.marks spot.place spot.row) refl low_then; moved = refl }))
+              (more some, (lowered_to reads spot, some, record { one = one (set reads.marks spot.place spot.row) refl low_then; plain = plain.none; moved = refl }))
           go false None is next =
               let empty : left_of_all keys (lowest (set reads.marks spot.place spot.row)) reads.places ≡ [] = left_lowest keys (set reads.marks spot.place spot.row) reads.places in
               let was : left_of_all keys (set reads.marks spot.place spot.row) reads.places ≡ [] = none_left state.locks s keys holds (set reads.marks spot.place spot.row) reads.places marked_then next in (
@@ -183,24 +188,25 @@ module _ (state : State) (s : SessionId) (doing : Session) (reads : Reads) (keys
                   empty,
                   record {
                     one = one (lowest (set reads.marks spot.place spot.row)) (empty ∙ sym was) (lowered_lowest reads.marks (set reads.marks spot.place spot.row) low_then);
+                    plain = plain.none;
                     moved = refl;
                   },
                 ),
               )
 
   -- where the next row is found again, the session may go on so, and that is a step
-  pub passes : (passed : Passed) → IsPassed state s reads.marks reads.places passed → (new : Progress) (told : answer.Reread) → IsPast (progress_of doing) passed new told reads keys
-      → CanMove state s doing (with_progress doing new) × IsStep state s doing reads keys told (moved_by state s (with_progress doing new))
+  pub passes : (passed : Passed) → IsPassed state s reads.marks reads.places passed → (new : Position) (told : answer.Reread) → IsPast (position_of doing) passed new told reads keys
+      → CanMove state s doing (with_position doing new) × IsRereadStep state s doing reads keys told (moved_by state s (with_position doing new))
   passes passed is new told past =
-      let to = goes_to passed.spot is.at is.again passed.more is.after in
-      subst (λ (p : Progress). CanMove state s doing (with_progress doing p) × IsStep state s doing reads keys told (moved_by state s (with_progress doing p))) (sym past.progress)
-      (to.0, subst (λ (t : answer.Reread). IsStep state s doing reads keys t (moved_by state s (record doing { stage = stage_past reads keys passed.spot passed.more }))) (sym past.answer) to.1)
+      let to = goes_to passed.spot is.at is.plain passed.more is.after in
+      subst (λ (p : Position). CanMove state s doing (with_position doing p) × IsRereadStep state s doing reads keys told (moved_by state s (with_position doing p))) (sym past.position)
+      (to.0, subst (λ (t : answer.Reread). IsRereadStep state s doing reads keys t (moved_by state s (record doing { stage = stage_past reads keys passed.spot passed.more }))) (sym past.answer) to.1)
 
   -- where it isn't, or bears a flag, nothing is changed
   next_is : (spot : Spot) (at : IsNextAt state.locks s reads.marks reads.places 0 spot) → slice_get (left_in keys reads) 0 ≡ Some at.next.row
   next_is spot at = ap (λ (l : List (Key × Inode)). slice_get l 0) (left_past spot at)
 
-  pub halts : (why : Halt) → IsHalt state s reads.marks reads.places why → IsStep state s doing reads keys (told_of why) state
+  pub halts : (why : Halt) → IsHalt state s reads.marks reads.places why → IsRereadStep state s doing reads keys (told_of why) state
   halts halt.Changed is = (is.at.next.row, next_is is.spot is.at, is.so, refl)
   halts (halt.Flagged op) is = (is.at.next.row, next_is is.spot is.at, (is.so.again, is.so.flag), refl)
 

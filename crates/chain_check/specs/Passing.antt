@@ -4,13 +4,12 @@ use Rattle.hops_base.specs.declared.ids.Mode.{Mode}
 use Rattle.hops_base.specs.declared.ids.SessionId.{SessionId}
 use Rattle.hops_base.specs.declared.key.Key.{Key}
 use Rattle.row_locks.specs.Locks.{Locks}
-use Rattle.db_state.specs.declared.session.Progress.{Progress}
+use Rattle.db_state.specs.declared.session.Position.{Position}
 use Rattle.db_state.specs.declared.session.Session.{Session}
 use Rattle.db_state.specs.declared.session.Stage.{Stage}
 use Rattle.db_state.specs.declared.session.Stage.TheVariants.{Reread, Commit}
 use Rattle.db_state.specs.declared.view.Place.{Place}
 use Rattle.db_state.specs.Reads.{Reads}
-use Rattle.db_state.specs.ReadSteps.{IsFoundAgain}
 use Rattle.db_state.specs.State.{State}
 use Rattle.db_state.specs.Steps.{IsRunning}
 use Rattle.chain_check.specs.declared.passing.Passed.{Passed}
@@ -20,7 +19,7 @@ use Rattle.chain_check.specs.declared.row.Halt.{Halt}
 use Rattle.chain_check.specs.declared.row.Halt.TheVariants as halt
 use Rattle.chain_check.specs.declared.search.Spot.{Spot}
 use Rattle.chain_check.specs.Rereading.{HasLeft}
-use Rattle.chain_check.specs.Rows.{IsReadAgain}
+use Rattle.chain_check.specs.Rows.{IsPlain, IsReadAgain}
 use Rattle.chain_check.specs.Search.{IsNextAt, LeavesNone, LeavesAny}
 
 -- these are the reads of the session
@@ -31,10 +30,10 @@ IsRereadBy state s reads = (doing : Session) (reads' : Reads) (keys : List (Key 
 abbrev pub HasSome : Locks → SessionId → List ℕ → List Place → Type 0
 HasSome locks s marks places = LeavesNone locks s marks places 0 (length places) → ⊥
 
--- the next row that is left is found again, and this tells whether more are left after it
+-- the next row that is left is found again without a flag, and this tells whether more are left after it
 pub record IsPassed (state : State) (s : SessionId) (marks : List ℕ) (places : List Place) (passed : Passed) : Type 0 where
   pub at : IsNextAt state.locks s marks places 0 passed.spot
-  pub again : IsFoundAgain state.stored.inodes at.next.row
+  pub plain : IsPlain state.stored.inodes at.next.row
   pub after : LeavesAny state.locks s marks places passed.spot passed.more
 
 -- it isn't as it was found; or it is and bears a flag
@@ -79,9 +78,9 @@ told_past true = told.More
 told_past false = told.Current
 
 -- so the session has passed the row
-pub record IsPast (old : Progress) (passed : Passed) (new : Progress) (told : answer.Reread) (reads : Reads) (keys : List (Key × Mode)) : Type 0 where
-  pub progress : new ≡ record old { stage = stage_past reads keys passed.spot passed.more }
+pub record IsPast (old : Position) (passed : Passed) (new : Position) (told : answer.Reread) (reads : Reads) (keys : List (Key × Mode)) : Type 0 where
+  pub position : new ≡ record old { stage = stage_past reads keys passed.spot passed.more }
   pub answer : told ≡ told_past passed.more
 
-abbrev pub Passes : Progress → Passed → Progress → answer.Reread → Type 0
+abbrev pub Passes : Position → Passed → Position → answer.Reread → Type 0
 Passes old passed new told = (reads : Reads) (keys : List (Key × Mode)) → old.stage ≡ Reread reads keys → IsPast old passed new told reads keys

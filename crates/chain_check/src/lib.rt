@@ -12,3 +12,5 @@ mod row;
 mod search;
 
 pub use reread::{Reread, reread_step};
+pub use row::is_same;
+pub use search::last_free;

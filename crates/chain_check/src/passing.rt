@@ -8,7 +8,7 @@ ghost use Rattle.chain_check.specs.Passing.{lowest, stage_past, HasReads, Passes
 
 use crate::reread::Reread;
 use crate::search::Spot;
-use db_state::{Progress, Reads, Stage};
+use db_state::{Position, Reads, Stage};
 
 /// A row that was found again, and whether more are left after it.
 #[derive(Clone, Copy, Debug)]
@@ -18,17 +18,17 @@ pub(crate) struct Passed {
 }
 
 /// How far a session is that has passed a row, and what it is told.
-pub(crate) fn pass(progress: Progress, passed: Passed) -> (Progress, Reread)
-    requires { HasReads progress.stage passed.spot.place }
-    ensures { Passes progress passed result.0 result.1 }
+pub(crate) fn pass(position: Position, passed: Passed) -> (Position, Reread)
+    requires { HasReads position.stage passed.spot.place }
+    ensures { Passes position passed result.0 result.1 }
 {
-    let stage = stage_past(progress.stage, passed);
+    let stage = stage_past(position.stage, passed);
     let told = if passed.more {
         Reread::More
     } else {
         Reread::Current
     };
-    (Progress { stage, ..progress }, told)
+    (Position { stage, ..position }, told)
 }
 
 // The stage past a row: the session reads on, or comes to answer.

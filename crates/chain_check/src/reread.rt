@@ -9,7 +9,7 @@ ghost use Rattle.chain_check.specs.Search.{AreMarked};
 use crate::passing::{Passed, pass};
 use crate::row::{Halt, read_again};
 use crate::search::{leaves_any, next_left, row_at};
-use db_state::{Db, Place, Progress, Reads, Stage};
+use db_state::{Db, Place, Position, Reads, Stage};
 use hops_base::{OpId, SessionId};
 
 /// What a step of a reread tells.
@@ -34,10 +34,10 @@ pub fn reread_step(db: &mut Db, s: SessionId) -> Reread
     match look(db, s) {
         Ok(passed) => db.go_on(
             s,
-            move |progress: Progress| -> (Progress, Reread)
-                requires { HasReads progress.stage passed.spot.place }
-                ensures { Passes progress passed result.0 result.1 }
-            { pass(progress, passed) },
+            move |position: Position| -> (Position, Reread)
+                requires { HasReads position.stage passed.spot.place }
+                ensures { Passes position passed result.0 result.1 }
+            { pass(position, passed) },
         ),
         Err(halt) => told_of(halt),
     }

@@ -33,8 +33,9 @@ pub(crate) fn read_again(db: &Db, found: &(Key, Inode)) -> Result<(), Halt>
     }
 }
 
-// Whether a row is as it was found.
-fn is_same(found: &Inode, now: &Inode) -> bool
+/// Whether a row is as it was found: none of what is compared differs, its id, its kind, its writer and whether it has a quota. It
+/// takes no memory.
+pub fn is_same(found: &Inode, now: &Inode) -> bool
     ensures { IsTrue result ↔ SameRow found.now now.now }
 {
     now.id == found.id

@@ -55,8 +55,9 @@ pub(crate) fn row_at(places: &[Place], spot: Spot) -> &(Key, Inode)
     &rows[spot.row as usize]
 }
 
-// The number of the last row below the mark that the session doesn't hold, but for the root's.
-fn last_free(db: &Db, s: SessionId, rows: &[(Key, Inode)], mark: u64) -> Option<u64>
+/// The number of the last row below the mark that the session doesn't hold, but for the root's. None where it holds each of them.
+/// It takes no memory.
+pub fn last_free(db: &Db, s: SessionId, rows: &[(Key, Inode)], mark: u64) -> Option<u64>
     requires { mark ≤ length rows.now }
     ensures { IsLastFree db.now.locks s rows.now mark result }
 {

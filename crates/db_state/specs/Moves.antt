@@ -54,8 +54,8 @@ IsTrail before after old new = new ≡ old
 -- ---- rows are found
 
 -- the second list has the first at its front
-abbrev pub Begins : {A : Type 0} → List A → List A → Type 0
-Begins {A} front all = (rest : List A) × (all ≡ front ++ rest)
+abbrev pub IsFrontOf : {A : Type 0} → List A → List A → Type 0
+IsFrontOf {A} front all = (rest : List A) × (all ≡ front ++ rest)
 
 -- the row is one of these
 abbrev pub IsOneOf : List (Key × Inode) → Key × Inode → Type 0
@@ -67,7 +67,7 @@ pub record LooksFor (inodes : Inodes) (old new : Stage) : Type 0 where
   pub again : List (Key × Inode)
   pub found : List (Key × Inode)
   pub missed : List Key
-  pub places : Begins (places_in old) (places_in new)
+  pub places : IsFrontOf (places_in old) (places_in new)
   pub rows : rows_in new ≡ rows_in old ++ again ++ found
   pub gaps : missing_in new ≡ missing_in old ++ missed
   pub before : AllByRecursion (IsOneOf ((root_key, root_row) ∷ rows_in old)) again

@@ -6,7 +6,7 @@ use Rattle.hops_base.specs.declared.key.Key.{Key}
 use Rattle.inode_table.specs.declared.inode.Inode.{Inode}
 use Rattle.db_state.specs.declared.session.Phase.{Phase}
 use Rattle.db_state.specs.declared.session.Phase.TheVariants as phase
-use Rattle.db_state.specs.declared.session.Progress.{Progress}
+use Rattle.db_state.specs.declared.session.Position.{Position}
 use Rattle.db_state.specs.declared.session.Session.{Session}
 use Rattle.db_state.specs.declared.session.Stage.{Stage}
 use Rattle.db_state.specs.declared.session.Stage.TheVariants.{Resolve, Lock, Read, Reread, Commit, Answered}
@@ -62,9 +62,9 @@ abbrev pub missing_in : Stage → List Key
 missing_in stage = flat_map (λ (place : Place). option_to_list place.missing) (places_in stage)
 
 -- what of a session changes as it goes on
-abbrev pub progress_of : Session → Progress
-progress_of session = record { since = session.since; reads = session.reads; trail = session.trail; stage = session.stage }
+abbrev pub position_of : Session → Position
+position_of session = record { since = session.since; reads = session.reads; trail = session.trail; stage = session.stage }
 
 -- the session, so far gone on
-abbrev pub with_progress : Session → Progress → Session
-with_progress session progress = record session { since = progress.since; reads = progress.reads; trail = progress.trail; stage = progress.stage }
+abbrev pub with_position : Session → Position → Session
+with_position session position = record session { since = position.since; reads = position.reads; trail = position.trail; stage = position.stage }

@@ -3,13 +3,13 @@
 ghost use Rattle.std.specs.Prelude.{◌≡◌, true, false, ◌⊎◌, ◌+◌, ◌≤◌, ◌<◌, ◌^◌, ◌++◌, ℕ, List, Some, IfOk, IsSome, OnOk, OnErr, length, map as list_map, option_copied, slice_get, slice_set};
 ghost use Rattle.std.specs.FinMap as map;
 ghost use Rattle.row_locks.specs.Locks.{mode_of, IsGivenBack};
-ghost use Rattle.row_store.specs.Children.{child_count};
+ghost use Rattle.row_store.specs.Children.{child_count, IsChildren};
 ghost use Rattle.db_state.specs.Core.{IsCore};
 ghost use Rattle.db_state.specs.Current.{listed_under};
 ghost use Rattle.db_state.specs.Stands.{quota_of};
 ghost use Rattle.db_state.specs.Stored.{root_key};
 ghost use Rattle.db_state.specs.Inside.{gave_by, one_if};
-ghost use Rattle.db_state.specs.Stages.{progress_of, with_progress};
+ghost use Rattle.db_state.specs.Stages.{position_of, with_position};
 ghost use Rattle.db_state.specs.State.{empty_seat, opening_state};
 ghost use Rattle.db_state.specs.Callers.{asked_key, IsAnswer, IsBehind, IsKeptAway, IsOpen, Takes};
 ghost use Rattle.db_state.specs.Steps.{begun_by, opened_by, next_session, met_by, moved_by, new_session, start, without_last, CanMove, CanOpen, Changes, Completes, Gives, IsRunning};
@@ -19,7 +19,7 @@ ghost use Rattle.hops_base.specs.declared.ids.Mode.{Mode};
 
 use crate::listing::listing_of;
 use crate::rows::{next_id, reserve_rows, write_rows};
-use crate::session::{Progress, Seat, Session, Stage};
+use crate::session::{Position, Seat, Session, Stage};
 use crate::sessions::SessionTable;
 use crate::settings::Settings;
 use crate::tables::Tables;
@@ -138,6 +138,13 @@ impl Db {
         self.tables.inodes.child_count(parent)
     }
 
+    /// The names of the inode rows below a parent, rising.
+    pub fn children(&self, parent: InodeId) -> Result<Vec<Name>, NoMemory>
+        ensures { IfOk result (λ names. IsChildren self.now.stored.inodes parent names.items) }
+    {
+        self.tables.inodes.children(parent)
+    }
+
     /// What is told of each inode row below a parent, in the order of their names. It is empty exactly where there is
     /// none, as below a file.
     pub fn listing(&self, parent: InodeId) -> Result<Listing, NoMemory>
@@ -239,13 +246,13 @@ impl Db {
 
     /// Goes on with a running session without a note. `go` is told how far it is, and says how far it then is: as far as
     /// it was, or further. Beside what `go` takes it takes no memory.
-    pub fn go_on<R, F: FnOnce(Progress) -> (Progress, R)>(&mut self, s: SessionId, go: F) -> R
+    pub fn go_on<R, F: FnOnce(Position) -> (Position, R)>(&mut self, s: SessionId, go: F) -> R
         requires running { IsOpen self.old s }
-        requires may { (doing : Session) → IsRunning self.old s doing → F.pre go (progress_of doing) }
-        requires goes { (doing : Session) (new : Progress) (answer : R) → IsRunning self.old s doing → F.post go (progress_of doing) (new, answer)
-            → (with_progress doing new ≡ doing) ⊎ CanMove self.old s doing (with_progress doing new) }
+        requires may { (doing : Session) → IsRunning self.old s doing → F.pre go (position_of doing) }
+        requires goes { (doing : Session) (new : Position) (answer : R) → IsRunning self.old s doing → F.post go (position_of doing) (new, answer)
+            → (with_position doing new ≡ doing) ⊎ CanMove self.old s doing (with_position doing new) }
         ensures { (doing : Session) → IsRunning self.old s doing
-            → (new : Progress) × F.post go (progress_of doing) (new, result) × (self.new ≡ moved_by self.old s (with_progress doing new)) }
+            → (new : Position) × F.post go (position_of doing) (new, result) × (self.new ≡ moved_by self.old s (with_position doing new)) }
     {
         self.sessions.change(self.alloc, s, go)
     }

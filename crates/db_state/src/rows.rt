@@ -1,6 +1,6 @@
 //! How a commit reaches the tables: it reserves all memory, and then writes.
 
-ghost use Rattle.std.specs.Prelude.{◌≡◌, ◌+◌, ◌≤◌, ◌<◌, ◌^◌, ◌++◌, true, length, OnOk};
+ghost use Rattle.std.specs.Prelude.{◌≡◌, ◌+◌, ◌<◌, ◌^◌, true, OnOk};
 ghost use Rattle.std.specs.List.{list_all, IsDistinct};
 ghost use Rattle.std.specs.Map.{keys_of};
 ghost use Rattle.hops_base.specs.Key.{same_key};
@@ -9,7 +9,6 @@ ghost use Rattle.db_state.specs.Places.{rows_of, is_placed};
 
 use crate::tables::{Tables, reserve_row, write_row};
 use crate::writes::Row;
-use commit_log::{Book, Note};
 use hops_base::{Key, NoMemory};
 
 /// Makes a place for each row.
@@ -46,14 +45,4 @@ pub fn next_id(next: u64, writes: &[(Key, Option<Row>)]) -> u64
         }
     }
     next
-}
-
-/// Writes the notes, for which there is room.
-pub fn write_notes(book: &mut Book, notes: Vec<Note>)
-    requires { length book.old.notes + length notes.items ≤ book.old.room }
-    ensures { book.new ≡ record book.old { notes = book.old.notes ++ notes.items } }
-{
-    for note in notes {
-        book.push(note);
-    }
 }

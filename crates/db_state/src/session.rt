@@ -48,7 +48,7 @@ pub struct Reads {
 
 /// What of a session changes as it goes on with its call.
 #[derive(Debug, Drop)]
-pub struct Progress {
+pub struct Position {
     pub since: u64,
     pub reads: u64,
     pub trail: Trail,

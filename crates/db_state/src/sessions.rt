@@ -4,10 +4,10 @@ ghost use Rattle.std.specs.Prelude.{◌≡◌, false, ℕ, Some, IfSome, IsSome,
 ghost use Rattle.std.specs.BTreeMap.{IsOrdered, get};
 ghost use Rattle.std.specs.FinMap as map;
 ghost use Rattle.std.specs.Ordering.{eq_by_cmp, nat_cmp};
-ghost use Rattle.db_state.specs.Stages.{next_key, progress_of, with_progress};
+ghost use Rattle.db_state.specs.Stages.{next_key, position_of, with_position};
 ghost use Rattle.db_state.specs.Steps.{one_more, with_session};
 
-use crate::session::{Progress, Session, Stage, Trail};
+use crate::session::{Position, Session, Stage, Trail};
 use hops_base::{ItemList, NoMemory, SessionId};
 use std::alloc::Global;
 use std::collections::BTreeMap;
@@ -95,16 +95,16 @@ impl SessionTable {
     }
 
     /// Lets `go` say how far a session then is. The allocator takes no memory.
-    pub fn change<R, F: FnOnce(Progress) -> (Progress, R)>(
+    pub fn change<R, F: FnOnce(Position) -> (Position, R)>(
         &mut self,
         alloc: Global,
         s: SessionId,
         go: F,
     ) -> R
         requires there { IsSome (map.get self.old s.0) }
-        requires may { (doing : Session) → map.get self.old s.0 ≡ Some doing → F.pre go (progress_of doing) }
+        requires may { (doing : Session) → map.get self.old s.0 ≡ Some doing → F.pre go (position_of doing) }
         ensures { (doing : Session) → map.get self.old s.0 ≡ Some doing
-            → (new : Progress) × F.post go (progress_of doing) (new, result) × (self.new ≡ with_session self.old s (with_progress doing new)) }
+            → (new : Position) × F.post go (position_of doing) (new, result) × (self.new ≡ with_session self.old s (with_position doing new)) }
     {
         change_in(alloc, &mut self.sessions, s.0, go)
     }
@@ -151,7 +151,7 @@ fn begin_in(sessions: &mut BTreeMap<u64, Session>, number: u64, since: u64, stag
     set_stage(session, stage);
 }
 
-fn change_in<R, F: FnOnce(Progress) -> (Progress, R)>(
+fn change_in<R, F: FnOnce(Position) -> (Position, R)>(
     alloc: Global,
     sessions: &mut BTreeMap<u64, Session>,
     number: u64,
@@ -159,11 +159,11 @@ fn change_in<R, F: FnOnce(Progress) -> (Progress, R)>(
 ) -> R
     requires ordered { IsOrdered nat_cmp sessions.old }
     requires there { IsSome (get nat_cmp sessions.old number) }
-    requires may { (doing : Session) → get nat_cmp sessions.old number ≡ Some doing → F.pre go (progress_of doing) }
+    requires may { (doing : Session) → get nat_cmp sessions.old number ≡ Some doing → F.pre go (position_of doing) }
     ensures ordered { IsOrdered nat_cmp sessions.new }
     ensures changed { (doing : Session) → get nat_cmp sessions.old number ≡ Some doing
-        → (new : Progress) × F.post go (progress_of doing) (new, result)
-        × ((q : ℕ) → get nat_cmp sessions.new q ≡ (if eq_by_cmp nat_cmp number q then Some (with_progress doing new) else get nat_cmp sessions.old q)) }
+        → (new : Position) × F.post go (position_of doing) (new, result)
+        × ((q : ℕ) → get nat_cmp sessions.new q ≡ (if eq_by_cmp nat_cmp number q then Some (with_position doing new) else get nat_cmp sessions.old q)) }
 {
     let Some(session) = sessions.get_mut(&number) else {
         unreachable!()
@@ -172,24 +172,24 @@ fn change_in<R, F: FnOnce(Progress) -> (Progress, R)>(
 }
 
 // Lets `go` say how far the session then is.
-fn change_one<R, F: FnOnce(Progress) -> (Progress, R)>(
+fn change_one<R, F: FnOnce(Position) -> (Position, R)>(
     alloc: Global,
     session: &mut Session,
     go: F,
 ) -> R
-    requires { F.pre go (progress_of session.old) }
-    ensures { (new : Progress) × F.post go (progress_of session.old) (new, result) × (session.new ≡ with_progress session.old new) }
+    requires { F.pre go (position_of session.old) }
+    ensures { (new : Position) × F.post go (position_of session.old) (new, result) × (session.new ≡ with_position session.old new) }
 {
-    let (progress, answer) = go(Progress {
+    let (position, answer) = go(Position {
         since: session.since,
         reads: session.reads,
         trail: mem::replace(&mut session.trail, ItemList::new(alloc)),
         stage: mem::replace(&mut session.stage, Stage::Answered),
     });
-    session.since = progress.since;
-    session.reads = progress.reads;
-    drop_trail(mem::replace(&mut session.trail, progress.trail));
-    set_stage(session, progress.stage);
+    session.since = position.since;
+    session.reads = position.reads;
+    drop_trail(mem::replace(&mut session.trail, position.trail));
+    set_stage(session, position.stage);
     answer
 }
 

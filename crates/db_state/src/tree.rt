@@ -6,7 +6,7 @@ ghost use Rattle.commit_log.specs.Legal.{space};
 ghost use Rattle.db_state.specs.Stands.{entry_of_kind};
 ghost use Rattle.db_state.specs.Walk.{step_to};
 
-use crate::store::Store;
+use crate::db::Db;
 use hops_base::{InodeId, ItemList, Key, NoMemory, Path};
 use inode_table::{Inode, Kind};
 use name_space::Entry;
@@ -14,10 +14,10 @@ use quota_table::QuotaRow;
 use std::alloc::Global;
 
 /// The namespace in path order, `/` first, walked over the rows.
-pub fn tree_of(alloc: Global, db: &Store) -> Result<ItemList<(Path, Entry)>, NoMemory>
-    ensures { IfOk result (λ tree. tree.items ≡ space db.now.settings.users db.now.notes) }
+pub fn tree_of(alloc: Global, db: &Db) -> Result<ItemList<(Path, Entry)>, NoMemory>
+    ensures { IfOk result (λ tree. tree.items ≡ space db.now.stored.settings.users db.now.stored.notes) }
 {
-    db.consistent();
+    db.core();
     let mut tree = ItemList::new(alloc);
     let mut pending = Vec::new(alloc);
     pending.push((Path::root(alloc), db.root_key().copy()?))?;
@@ -35,12 +35,12 @@ pub fn tree_of(alloc: Global, db: &Store) -> Result<ItemList<(Path, Entry)>, NoM
 
 // The children are pushed from the last to the first, so that they are popped in their order. A file has none.
 fn add_children(
-    db: &Store,
+    db: &Db,
     parent: InodeId,
     path: &Path,
     pending: &mut Vec<(Path, Key)>,
 ) -> Result<(), NoMemory>
-    ensures { OnOk result (pending.new.items ≡ pending.old.items ++ reverse (map (step_to path.now parent) (child_names db.now.inodes parent))) }
+    ensures { OnOk result (pending.new.items ≡ pending.old.items ++ reverse (map (step_to path.now parent) (child_names db.now.stored.inodes parent))) }
 {
     let mut names = db.children(parent)?;
     while let Some(name) = names.pop() {

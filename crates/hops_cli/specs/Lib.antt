@@ -1,6 +1,5 @@
 pub mod Built
 pub mod Ends
-pub mod Reading
 pub mod Run
 pub mod Status
 pub mod Transfer

@@ -1,21 +1,17 @@
 -- What the report of a run tells. This project's own.
-use Rattle.std.specs.Prelude.{◌≡◌, ℕ, List, [], ◌∷◌, length, map, Option, Some, None, ⊤}
-use Rattle.std.specs.List.{filter, sum_by}
-use Rattle.name_space.specs.Call.{paths_of}
-use Rattle.name_space.specs.Namespace.{Namespace, Path, IsNamespace, entry_at, is_dir, above, opening}
+use Rattle.std.specs.Prelude.{◌≡◌, ℕ, Bool, true, false, List, [], ◌∷◌, map, Option, Some, None}
+use Rattle.std.specs.List.{list_all}
+use Rattle.name_space.specs.Namespace.{Namespace, IsNamespace, opening}
 use Rattle.name_space.specs.Calls.{as_read, replies_of, space_after_calls}
-use Rattle.name_space.specs.Script.{Script, ClientCalls, users_of}
+use Rattle.name_space.specs.Script.{Script, ClientCalls}
 use Rattle.name_space.specs.declared.reply.Reply.{Reply}
 use Rattle.commit_log.specs.declared.note.Note.{Note}
 use Rattle.commit_log.specs.declared.note.Note.TheVariants.{Open, Took, Gave, Wrote, Did, Cut, Met, Gone}
 use Rattle.commit_log.specs.declared.answer.AnswerLine.{AnswerLine}
 use Rattle.commit_log.specs.declared.answer.CallEnd.{CallEnd}
 use Rattle.commit_log.specs.declared.answer.CallEnd.TheVariants.{Done, Again, NoNamenode}
-use Rattle.commit_log.specs.Along.{Each}
-use Rattle.commit_log.specs.Legal.{space}
 use Rattle.commit_log.specs.Told.{Told}
-use Rattle.commit_log.specs.Kept.{KeptWithoutLocks}
-use Rattle.commit_log.specs.OneClient.{Turn, turns_book}
+use Rattle.commit_log.specs.Kept.{Kept}
 use Rattle.hops_base.specs.Ids.{client}
 use Rattle.report_text.specs.Report.{report_text}
 
@@ -33,32 +29,26 @@ IsPlainRun (one ∷ []) lines tree =
     (map (λ (line : AnswerLine). reply_in line.end) lines ≡ map Some (replies_of opening (client 0) one.user one.calls)) × (tree ≡ space_after_calls opening (client 0) one.user one.calls)
 IsPlainRun (one ∷ other ∷ more) lines tree = ⊥
 
--- the rows that the resolution of a path reads: in each directory above the path one, under its next name, there or
--- missing
-abbrev pub rows_read : Namespace → Path → ℕ
-rows_read space path = length (filter (λ (up : Path). is_dir (entry_at space up)) (above path))
+-- the note opens a session, takes a lock or answers. It isn't a conflict, a step of an operation, a cut or the loss of a namenode;
+-- and no lock is given back but by an answer
+abbrev pub is_quiet : Note → Bool
+is_quiet (Open s client number node) = true
+is_quiet (Took s key mode) = true
+is_quiet (Gave s) = false
+is_quiet (Wrote s work) = false
+is_quiet (Did s client number call reads reply) = true
+is_quiet (Cut op path gone) = false
+is_quiet (Met s cause) = false
+is_quiet (Gone node ended) = false
 
--- where the note answers a call, its `reads` are the rows read for the call's path in the namespace before it: each call
--- was resolved once
-abbrev pub TellsReads : List (List ℕ) → List Note → Note → Type 0
-TellsReads users before (Open s client number node) = ⊤
-TellsReads users before (Took s key mode) = ⊤
-TellsReads users before (Gave s) = ⊤
-TellsReads users before (Wrote s work) = ⊤
-TellsReads users before (Did s client number call reads reply) = reads ≡ sum_by (rows_read (space users before)) (paths_of call)
-TellsReads users before (Cut op path gone) = ⊤
-TellsReads users before (Met s cause) = ⊤
-TellsReads users before (Gone node ended) = ⊤
-
--- the book, the answers and the tree of a script's run: they tell one legal history of it, which leads to a namespace; the
--- book has the openings and the answers of the calls in turn, and nothing else; each answer tells the rows read for its
--- path; and the replies and that namespace are those of the plain calls
+-- the book, the answers and the tree of a script's run: they tell one legal history of it with sound locks, which leads to the tree;
+-- they keep what runs keep: whoever answers holds its reply key and a key for each path of its call, and takes no subtree; the tree
+-- is a namespace; nothing is met, cut, reclaimed or lost; and the replies and the tree are those of the plain calls, one after another
 pub record IsRun (script : Script) (notes : List Note) (lines : List AnswerLine) (tree : Namespace) : Type 0 where
   pub told : Told script notes lines tree
-  pub kept : KeptWithoutLocks script notes lines
+  pub kept : Kept script notes lines
   pub names : IsNamespace tree
-  pub alone : (turns : List Turn) × (notes ≡ turns_book 0 turns)
-  pub reads : Each (TellsReads (users_of script)) notes
+  pub quiet : list_all is_quiet notes ≡ true
   pub plain : IsPlainRun script.clients lines tree
 
 -- the text is the report of a run of the script, and nothing else

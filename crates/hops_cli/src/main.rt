@@ -1,8 +1,9 @@
 //! `hops`, the program: it reads a script from standard input, runs it and writes its report.
 //!
-//! It stands on `inode_ops` and `db_state` for the calls, on `commit_log` for the book, and on `script_text` and
-//! `report_text` for the texts. It promises on [`top`] that what is written is the report of a script's run,
-//! whose book, answers and tree tell one legal history of a plain namespace; which words are a command; that
+//! It stands on `hops_core` for the sessions that carry out calls, on `commit_log` for the book, and on `script_text`
+//! and `report_text` for the texts. It promises on [`top`] that what is written is the report of a script's run,
+//! whose book, answers and tree tell one legal history of a plain namespace, with sound locks: each session
+//! holds a key for every path of its call as it answers, and nobody is met; which words are a command; that
 //! each failure of a device has its cause; that too large an input is told exactly; that bytes which are no
 //! script are answered by their first fault; and that a script is answered as not built exactly where it
 //! needs what isn't, which is named.
@@ -22,10 +23,10 @@ ghost use Rattle.script_text.specs.Generator.{most_generated_calls};
 mod built;
 mod engine;
 mod give_out;
-mod resolve;
 mod status;
 mod streams;
 mod take_in;
+mod turn;
 mod words;
 
 use built::unbuilt;
@@ -159,6 +160,10 @@ fn answer(rt: &HostRuntime) -> Result<Status, NoMemory> {
     Ok(top(rt.alloc(), &words, &mut source, &mut sink))
 }
 
+#[cfg(test)]
+mod interleaving_tests;
+#[cfg(test)]
+mod interleavings;
 #[cfg(test)]
 mod tests;
 #[cfg(test)]

@@ -328,10 +328,11 @@ fn script_of(rt: &impl Abort, alloc: Global, calls: &str) -> String {
     ).expect(rt, "memory")
 }
 
-// Asserts that the last of two calls of one client is answered this.
-fn assert_second(rt: &impl Abort, alloc: Global, calls: &str, reply: &str) {
+// Asserts that the last of two calls of one client is answered this, by the note of this number. A call's notes are its
+// opening, one for each key that it locks, and its answer.
+fn assert_second(rt: &impl Abort, alloc: Global, calls: &str, note: u32, reply: &str) {
     let script = script_of(rt, alloc, calls);
-    let line = format!(in alloc; "[\"answer\",0,2,\"done\",3,{reply}]\n").expect(rt, "memory");
+    let line = format!(in alloc; "[\"answer\",0,2,\"done\",{note},{reply}]\n").expect(rt, "memory");
     let (status, sink) = ran(rt, alloc, script.as_bytes());
     let report = str::from_utf8(sink.written()).expect(rt, "a text");
     let answered = report.contains(line.as_str());
@@ -340,62 +341,73 @@ fn assert_second(rt: &impl Abort, alloc: Global, calls: &str, reply: &str) {
 
 #[test]
 fn refusals_of_create_and_list(rt: HostRuntime) {
-    for (calls, reply) in [
+    for (calls, note, reply) in [
         (
             "[[\"mkdirs\",\"/d\"],[\"create\",\"/d\",true]]",
+            8,
             "{\"refused\":\"FileAlreadyExists\"}",
         ),
         (
             "[[\"create\",\"/f\",false],[\"create\",\"/f\",false]]",
+            9,
             "{\"refused\":\"FileAlreadyExists\"}",
         ),
         (
             "[[\"create\",\"/f\",false],[\"create\",\"/f/x\",true]]",
+            8,
             "{\"refused\":\"ParentNotDirectory\"}",
         ),
         (
             "[[\"create\",\"/f\",false],[\"create\",\"/f\",true]]",
+            9,
             "true",
         ),
         (
             "[[\"create\",\"/f\",false],[\"list\",\"/f/x\"]]",
+            8,
             "{\"refused\":\"FileNotFound\"}",
         ),
         (
             "[[\"mkdirs\",\"/d\"],[\"list\",\"/d\"]]",
+            8,
             "{\"entries\":[]}",
         ),
     ] {
-        assert_second(&rt, rt.alloc(), calls, reply);
+        assert_second(&rt, rt.alloc(), calls, note, reply);
     }
 }
 
 #[test]
 fn refusals_of_delete_and_chmod(rt: HostRuntime) {
-    for (calls, reply) in [
-        ("[[\"mkdirs\",\"/d\"],[\"delete\",\"/\",false]]", "false"),
+    for (calls, note, reply) in [
+        ("[[\"mkdirs\",\"/d\"],[\"delete\",\"/\",false]]", 8, "false"),
         (
             "[[\"mkdirs\",\"/d/e\"],[\"delete\",\"/d\",false]]",
+            9,
             "{\"refused\":\"PathIsNotEmptyDirectory\"}",
         ),
         (
             "[[\"mkdirs\",\"/d/e\"],[\"delete\",\"/d/e/f\",false]]",
+            8,
             "false",
         ),
         (
             "[[\"create\",\"/d/f\",false],[\"delete\",\"/d/f\",false]]",
+            10,
             "true",
         ),
         (
             "[[\"mkdirs\",\"/d\"],[\"chmod\",\"/\",511]]",
+            8,
             "{\"refused\":\"IO\",\"why\":\"RootFixed\"}",
         ),
         (
             "[[\"create\",\"/f\",false],[\"chmod\",\"/f/x\",1]]",
+            8,
             "{\"refused\":\"FileNotFound\"}",
         ),
     ] {
-        assert_second(&rt, rt.alloc(), calls, reply);
+        assert_second(&rt, rt.alloc(), calls, note, reply);
     }
 }
 
@@ -450,14 +462,14 @@ fn deep_head(rt: &impl Abort, alloc: Global, calls: &str) -> String {
 // The notes and the answers of the three calls.
 fn deep_notes(rt: &impl Abort, alloc: Global, path: &str, wide: &str) -> String {
     format!(in alloc;
-        "[0,\"open\",1,0,1,0]\n[1,\"did\",1,0,1,[\"mkdirs\",\"{path}\"],1,true]\n[2,\"open\",2,0,2,0]\n[3,\"did\",2,0,2,[\"stat\",\"/d0/d1\"],2,{STATUS_OF_ANN}]\n[4,\"open\",3,0,3,0]\n[5,\"did\",3,0,3,[\"mkdirs\",\"{wide}\"],3,true]\n[\"answer\",0,1,\"done\",1,true]\n[\"answer\",0,2,\"done\",3,{STATUS_OF_ANN}]\n[\"answer\",0,3,\"done\",5,true]\n"
+        "[0,\"open\",1,0,1,0]\n[1,\"took\",1,[\"inode\",0,\"root\"],\"X\"]\n[2,\"took\",1,[\"inode\",1,\"d0\"],\"X\"]\n[3,\"took\",1,[\"reply\",0],\"X\"]\n[4,\"did\",1,0,1,[\"mkdirs\",\"{path}\"],1,true]\n[5,\"open\",2,0,2,0]\n[6,\"took\",2,[\"inode\",2,\"d1\"],\"S\"]\n[7,\"took\",2,[\"reply\",0],\"X\"]\n[8,\"did\",2,0,2,[\"stat\",\"/d0/d1\"],2,{STATUS_OF_ANN}]\n[9,\"open\",3,0,3,0]\n[10,\"took\",3,[\"inode\",2,\"d1\"],\"X\"]\n[11,\"took\",3,[\"inode\",3,\"other\"],\"X\"]\n[12,\"took\",3,[\"reply\",0],\"X\"]\n[13,\"did\",3,0,3,[\"mkdirs\",\"{wide}\"],3,true]\n[\"answer\",0,1,\"done\",4,true]\n[\"answer\",0,2,\"done\",8,{STATUS_OF_ANN}]\n[\"answer\",0,3,\"done\",13,true]\n"
     ).expect(rt, "memory")
 }
 
 // The lines of the last namespace, and the end.
 fn deep_tree(rt: &impl Abort, alloc: Global, lines: &str, wide: &str) -> String {
     format!(in alloc;
-        "[\"path\",\"/\",{ROOT}]\n[\"path\",\"/d0\",{DIR_OF_ANN}]\n[\"path\",\"/d0/d1\",{DIR_OF_ANN}]\n{lines}[\"path\",\"/d0/d1/other\",{DIR_OF_ANN}]\n[\"path\",\"{wide}\",{DIR_OF_ANN}]\n[\"end\",6,3,43]\n"
+        "[\"path\",\"/\",{ROOT}]\n[\"path\",\"/d0\",{DIR_OF_ANN}]\n[\"path\",\"/d0/d1\",{DIR_OF_ANN}]\n{lines}[\"path\",\"/d0/d1/other\",{DIR_OF_ANN}]\n[\"path\",\"{wide}\",{DIR_OF_ANN}]\n[\"end\",14,3,43]\n"
     ).expect(rt, "memory")
 }
 

@@ -1,9 +1,8 @@
 use Rattle.std.proofs.Common.{◌≡◌, Some, Err, rules, sym, subst, ◌∙◌}
 use Rattle.hops_base.specs.declared.key.Key.{Key}
 use Rattle.inode_table.specs.declared.inode.Inode.{Inode}
-use Rattle.db_state.specs.ReadSteps.{IsFoundAgain}
 use Rattle.chain_check.specs.Passing.{IsLook, IsHalt}
-use Rattle.chain_check.specs.Rows.{IsReadAgain}
+use Rattle.chain_check.specs.Rows.{IsPlain, IsReadAgain}
 use Rattle.chain_check.proofs.reread.look_at.Goals as goal
 
 pub returns-in_err-read_again : goal.returns-in_err-read_again
@@ -21,4 +20,4 @@ returns c =
     let at = c.in-Some.ensures in
     let rows : Some at.next.row ≡ Some c.row_at.result.now = sym at.next.there ∙ c.row_at.ensures at.place at.placed in
     let row : at.next.row ≡ c.row_at.result.now = cc in
-    record { at = at; again = subst (IsFoundAgain c.args.db.now.stored.inodes) (sym row) c.in_ok-read_again.ensures; after = c.leaves_any-more.ensures }
+    record { at = at; plain = subst (IsPlain c.args.db.now.stored.inodes) (sym row) c.in_ok-read_again.ensures; after = c.leaves_any-more.ensures }

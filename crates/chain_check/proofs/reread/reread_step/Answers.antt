@@ -1,7 +1,7 @@
 use Rattle.std.proofs.Common.{inr, sym, subst}
 use Rattle.db_state.specs.State.{State}
 use Rattle.chain_check.specs.declared.reread.Reread.{Reread}
-use Rattle.chain_check.specs.Rereading.{IsStep}
+use Rattle.chain_check.specs.Rereading.{IsRereadStep}
 use Rattle.chain_check.proofs.StepLaws.{passes, halts, same_left, has_mark}
 use Rattle.chain_check.proofs.reread.reread_step.Goals as goal
 
@@ -21,9 +21,9 @@ pub returns-in-Ok : goal.returns-in-Ok
 returns-in-Ok c = λ doing reads keys runs left.
     let went = c.go_on.ensures doing runs in
     let step = passes c.args.db.now c.args.s doing reads keys c.core.ensures runs left.stage c.in-Ok.passed (c.in-Ok.ensures doing reads keys runs left) went.0 c.go_on.result (went.1.1 reads keys left.stage) in
-    subst (λ (new : State). IsStep c.args.db.now c.args.s doing reads keys c.go_on.result new) (sym went.2) step.1
+    subst (λ (new : State). IsRereadStep c.args.db.now c.args.s doing reads keys c.go_on.result new) (sym went.2) step.1
 
 pub returns-in-Err : goal.returns-in-Err
 returns-in-Err c = λ doing reads keys runs left.
     let step = halts c.args.db.now c.args.s doing reads keys c.core.ensures runs left.stage c.in-Err.halt (c.in-Err.ensures doing reads keys runs left) in
-    subst (λ (told : Reread). IsStep c.args.db.now c.args.s doing reads keys told c.args.db.now) (sym c.told_of.ensures) step
+    subst (λ (told : Reread). IsRereadStep c.args.db.now c.args.s doing reads keys told c.args.db.now) (sym c.told_of.ensures) step

@@ -6,3 +6,9 @@ returns-in-Some-flag c = record {
   again = record { now = c.in-Some.now.now; there = sym c.in-Some.ensures; same = search rules };
   flag = c.in-Some-flag.is;
 }
+
+pub returns-in-None : goal.returns-in-None
+returns-in-None c = record {
+  again = record { now = c.in-Some.now.now; there = sym c.in-Some.ensures; same = search rules };
+  none = c.in-None.is;
+}

@@ -7,4 +7,4 @@ abbrev pub decreases-loop-name : goal.decreases-loop-name
 decreases-loop-name l = length l.names.items
 
 abbrev pub invariant-loop-name : goal.invariant-loop-name
-invariant-loop-name l = l.pending.items ++ reverse (map (step_to l.path l.parent) l.names.items) ≡ l.initial.pending.items ++ reverse (map (step_to l.path l.parent) (child_names l.db.inodes l.parent))
+invariant-loop-name l = l.pending.items ++ reverse (map (step_to l.path l.parent) l.names.items) ≡ l.initial.pending.items ++ reverse (map (step_to l.path l.parent) (child_names l.db.stored.inodes l.parent))

@@ -5,7 +5,7 @@ use Rattle.db_state.proofs.WalkLemmas.{IsWalked}
 use Rattle.db_state.proofs.tree.tree_of.Given as goal
 
 abbrev pub decreases-loop-path : goal.decreases-loop-path
-decreases-loop-path l = length (unfinished (space l.db.settings.users l.db.notes) l.pending.items)
+decreases-loop-path l = length (unfinished (space l.db.stored.settings.users l.db.stored.notes) l.pending.items)
 
 abbrev pub invariant-loop-path : goal.invariant-loop-path
-invariant-loop-path l = IsWalked l.db.inodes (space l.db.settings.users l.db.notes) l.tree.items l.pending.items
+invariant-loop-path l = IsWalked l.db.stored.inodes (space l.db.stored.settings.users l.db.stored.notes) l.tree.items l.pending.items

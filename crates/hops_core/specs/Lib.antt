@@ -1,0 +1,11 @@
+pub mod Built
+pub mod Commits
+pub mod Events
+pub mod Follows
+pub mod Locks
+pub mod ReadLocked
+pub mod Reading
+pub mod Shared
+pub mod Steady
+pub mod Steps
+pub mod Views

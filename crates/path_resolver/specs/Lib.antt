@@ -1,0 +1,4 @@
+pub mod Keys
+pub mod Resolving
+pub mod Stepping
+pub mod Ways
