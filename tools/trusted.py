@@ -1,10 +1,11 @@
 #!/usr/bin/env python3
 """Says on which definitions the contract of a function rests.
 
-tools/trusted.py [FUNCTION]   prints them (those of `top`, where none is named), lowest crate first, with their files and lines
-tools/trusted.py --write      makes docs/TRUSTED.md of those on which the contract of `top` rests
+tools/trusted.py [FUNCTION]   prints them (those of each program's `top`, where none is named), lowest crate first, with their
+                              files and lines
+tools/trusted.py --write      makes docs/TRUSTED.md of those on which the contracts of `top` rest
 tools/trusted.py --check      prints a line for each fault and ends with 1 where there is one: docs/TRUSTED.md is stale; a
-                              definition on which `top` rests has no comment; a word of specs/ is reached by no contract"""
+                              definition on which a `top` rests has no comment; a word of specs/ is reached by no contract"""
 
 import signal
 import sys
@@ -20,20 +21,25 @@ TOP = Path(__file__).resolve().parent.parent
 PAGE = TOP / "docs" / "TRUSTED.md"
 HEAD = """# What must be believed
 
-What the program claims is the contract of `{name}` (`{place}`).
+What each program claims is the contract of its `top` ({places}).
 That it is kept is proved; that it says the right thing rests on these definitions, in reading order, each with its lines and
 the sentence that stands over it in the source. `tools/trusted.py --write` makes this page from the sources, and `.ci/run`
 fails where it is stale.
 """
 
 
-def function_named(sources, name):
-    """The one function of this name, by as much of its path as tells it from others."""
-    found = [it for it in sources.functions if f"::{it.name}".endswith(f"::{name}")]
-    if len(found) != 1:
+def functions_named(sources, name):
+    """The one function of this name, by as much of its path as tells it from others; with no name, the `top` of each program."""
+    found = [it for it in sources.functions if f"::{it.name}".endswith(f"::{name or 'top'}")]
+    if name and len(found) != 1:
         told = "".join(f"\n  {it.name} ({it.place})" for it in found)
         sys.exit(f"trusted.py: {len(found)} functions are named {name}{told}")
-    return found[0]
+    return sorted(found, key=lambda it: it.place)
+
+
+def paths_of(functions):
+    """The paths that the contracts of these functions name."""
+    return set().union(*(it.paths for it in functions))
 
 
 def counts_of(entries):
@@ -48,8 +54,8 @@ def outside_of(sources, paths):
     return sorted(modules.items())
 
 
-def print_trusted(sources, function):
-    found, beyond = sources.reach(function.paths)
+def print_trusted(sources, functions):
+    found, beyond = sources.reach(paths_of(functions))
     entries = sources.in_order(found)
     for entry in entries:
         print(f"{entry.place} {entry.name}")
@@ -62,11 +68,11 @@ def print_trusted(sources, function):
         print(f"  {module}: {count}")
 
 
-def page_of(sources, function):
+def page_of(sources, functions):
     """The text of docs/TRUSTED.md."""
-    found, beyond = sources.reach(function.paths)
+    found, beyond = sources.reach(paths_of(functions))
     entries = sources.in_order(found)
-    text = HEAD.format(name=function.name.split("::")[-1], place=function.place)
+    text = HEAD.format(places=", ".join(f"`{it.place}`" for it in functions))
     for crate, of_crate in groupby(entries, lambda it: it.crate):
         text += f"\n## {crate}\n"
         for file, of_file in groupby(of_crate, lambda it: it.file):
@@ -78,13 +84,13 @@ def page_of(sources, function):
     return text + "".join(f"- `{module}`: {count}\n" for module, count in outside_of(sources, beyond))
 
 
-def faults_of(sources, function):
+def faults_of(sources, functions):
     """A line for each fault: of the page, of comments, and of words that are reached by no contract."""
-    if not PAGE.exists() or PAGE.read_text(encoding="utf-8") != page_of(sources, function):
+    if not PAGE.exists() or PAGE.read_text(encoding="utf-8") != page_of(sources, functions):
         yield "docs/TRUSTED.md: it is stale; tools/trusted.py --write makes it anew"
-    for entry in sources.in_order(sources.reach(function.paths)[0]):
+    for entry in sources.in_order(sources.reach(paths_of(functions))[0]):
         if not entry.says:
-            yield f"{entry.place}: {entry.name} has no comment of its own, and {function.name} rests on it"
+            yield f"{entry.place}: {entry.name} has no comment of its own, and a `top` rests on it"
     reached, beyond = sources.reach(sources.cited)
     words = {path for path, entry in sources.entries.items() if entry.is_word}
     for entry in sources.in_order(words - reached):
@@ -98,16 +104,16 @@ def main(words):
     if len(words) > 1 or words[:1] == ["--help"]:
         sys.exit(__doc__)
     sources = Sources(TOP)
-    asked = words[0] if words else "top"
-    function = function_named(sources, "top" if asked in ("--check", "--write") else asked)
+    asked = words[0] if words else ""
+    functions = functions_named(sources, "" if asked in ("--check", "--write") else asked)
     if asked == "--check":
-        faults = list(faults_of(sources, function))
+        faults = list(faults_of(sources, functions))
         print("".join(f"{it}\n" for it in faults), end="")
         return 1 if faults else 0
     if asked == "--write":
-        PAGE.write_text(page_of(sources, function), encoding="utf-8")
+        PAGE.write_text(page_of(sources, functions), encoding="utf-8")
     else:
-        print_trusted(sources, function)
+        print_trusted(sources, functions)
     return 0
 
 

@@ -51,7 +51,7 @@ opens_past client (Some s) (Open t c q node) = (c.0 == client.0) && nat_lt s.0 t
 opens_past client last note = false
 
 -- the book tells of a client no call after the last that was begun, no answer after the last that was given, and no session after
--- its last one; and that one is there
+-- its last one; and that one is there and is this client's
 pub record IsSeat (sessions : Sessions) (notes : List Note) (client : ClientNo) (seat : Seat) : Type 0 where
   pub opens : list_any (opens_after client seat.begun) notes ≡ false
   pub answers : list_any (answers_after client seat.answered) notes ≡ false

@@ -20,10 +20,11 @@ where_so test xs = if test then xs else []
 abbrev pub last : {A : Type 0} → List A → Option A
 last xs = slice_get xs (length xs - 1)
 
--- the last row found for a path with its key, and the one before it
+-- the last row found for a path, with its key
 abbrev pub last_found : Place → Option (Key × Inode)
 last_found place = last place.found.items
 
+-- the row found before it, with its key
 abbrev pub parent_found : Place → Option (Key × Inode)
 parent_found place = last (take (length place.found.items - 1) place.found.items)
 
@@ -55,17 +56,19 @@ parent place = where_so (is_whole place) (map (λ (r : Key × Inode). r.0) (opti
 abbrev pub quotas : Place → List Key
 quotas place = flat_map (λ (r : Key × Inode). where_so r.1.has_quota (key.Quota r.1.id ∷ [])) place.found.items
 
--- the path's own row, where it is a directory's; where it is a file's
+-- the path's own row, where it is a directory's
 abbrev pub own_dir : Place → List Inode
 own_dir place = filter (λ (row : Inode). is_dir_kind row.kind) (option_to_list (own_row place))
 
+-- the path's own row, where it is a file's
 abbrev pub own_file : Place → List Inode
 own_file place = filter (λ (row : Inode). not (is_dir_kind row.kind)) (option_to_list (own_row place))
 
--- the lease key of this client, and of the writer, for the path's file
+-- the lease key of this client for the path's file
 abbrev pub lease : ClientNo → Place → List Key
 lease client place = map (λ (row : Inode). key.Lease client row.id) (own_file place)
 
+-- the lease key of the file's writer for it, where it has one
 abbrev pub writer_lease : Place → List Key
 writer_lease place = flat_map (λ (row : Inode). map (λ (w : ClientNo). key.Lease w row.id) (option_to_list row.writer)) (own_file place)
 

@@ -37,6 +37,7 @@ use Rattle.db_state.specs.State.{Sessions}
 abbrev pub asked_as : ClientNo → Call → Asked
 asked_as client call = record { client = client; call = call; own = None }
 
+-- the call of this session, so
 abbrev pub asked_in : Session → Asked
 asked_in session = asked_as session.client session.call
 
@@ -110,8 +111,8 @@ AreOld next sessions = (s : SessionId) (session : Session) → map.get sessions 
 
 -- ---- how the book tells of a session
 
--- the book has its opening, at its place and before its attempt began to read; and where it is open, nothing in the book has
--- ended it, and its call is valid
+-- the book has its opening, at its place and before its attempt began to read; where it is open, nothing in the book has ended
+-- it; and its call is valid
 pub record IsOpened (notes : List Note) (s : SessionId) (session : Session) : Type 0 where
   pub opening : opening_of notes s ≡ Some (record { session = s; client = session.client; number = session.number; node = session.node })
   pub place : position (opens_session s) notes ≡ Some session.opened

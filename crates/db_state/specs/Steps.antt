@@ -91,7 +91,8 @@ HasNoOpen state client = IfSome (seat_of state.seats client).last (λ s. IfSome 
 abbrev pub begun_by : State → ClientNo → ℕ → State
 begun_by old client number = record old { seats = slice_set old.seats client.0 (record (seat_of old.seats client) { begun = number }) }
 
--- client and namenode exist, the client has no open session, and it makes a valid call, the next one by number
+-- client and namenode exist, the client has no open session, and it makes a valid call, the next one by number, of no more than
+-- a client may make
 pub record CanOpen (state : State) (client : ClientNo) (number : ℕ) (call : Call) (node : NodeNo) : Type 0 where
   pub client_there : client.0 < length state.stored.settings.users
   pub node_there : node.0 < state.stored.settings.namenodes
@@ -187,9 +188,9 @@ pub record Completes (old new : State) (s : SessionId) (doing : Session) (writes
   pub seats : new.seats ≡ slice_set old.seats doing.client.0 (record (seat_of old.seats doing.client) { answered = doing.number })
   pub sessions : new.sessions ≡ with_session old.sessions s (record doing { stage = Answered })
 
--- a session that answers has reread all that it found; rows and book are consistent with its writes and its answer, and it takes
--- few new ids; a call that only looks writes nothing; it writes what it has locked Exclusive, and keeps the rows that others have
--- read; and it holds the keys of its paths
+-- a session that answers has come to its Commit, where all that it found is reread; rows and book are consistent with its writes
+-- and its answer, and it takes few new ids; a call that only looks writes nothing; it writes what it has locked Exclusive, and keeps
+-- the rows that others have read; and it holds the keys of its paths
 pub record CanAnswer (state : State) (s : SessionId) (doing : Session) (reads : Reads) (keys : List (Key × Mode)) (writes : List (Key × Option Row)) (reply : Reply) : Type 0 where
   pub there : map.get state.sessions s.0 ≡ Some doing
   pub stage : doing.stage ≡ Commit reads keys

@@ -23,7 +23,8 @@ use Rattle.commit_log.specs.declared.answer.CallEnd.TheVariants.{Done}
 use Rattle.commit_log.specs.Along.{EachAfter, Each}
 use Rattle.commit_log.specs.Answers.{call_answered, done_at, is_of_client, is_call, is_again, dones, BorneOut}
 use Rattle.commit_log.specs.Parts.{Where, Answering, answers_call, did}
-use Rattle.hops_cli.specs.Built.{is_built, is_built_client}
+use Rattle.hops_core.specs.Built.{is_built}
+use Rattle.hops_cli.specs.Built.{is_built_client}
 use Rattle.hops_cli.specs.Run.{is_quiet, reply_in}
 use Rattle.hops_cli.specs.Turning.{Turn, calls_made, opens, takes, does, turn_notes, turns_notes, turn_line, turns_lines}
 

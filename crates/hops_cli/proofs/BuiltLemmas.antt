@@ -6,7 +6,8 @@ use Rattle.std.specs.Cmp.{first_so, second_so}
 use Rattle.hops_base.specs.First.{first_some}
 use Rattle.name_space.specs.declared.call.Call.{Call}
 use Rattle.name_space.specs.Script.{ClientCalls, Script}
-use Rattle.hops_cli.specs.Built.{is_built, unbuilt_in, has_built_counts, unbuilt_call, unbuilt, is_built_client, IsBuilt}
+use Rattle.hops_core.specs.Built.{is_built}
+use Rattle.hops_cli.specs.Built.{unbuilt_in, has_built_counts, unbuilt_call, unbuilt, is_built_client, IsBuilt}
 
 -- where no call of a kind that isn't built is found, all are
 all_built : (n : ℕ) (calls : List Call) → position_from (λ (c : Call). not (is_built c)) n calls ≡ None → list_all is_built calls ≡ true

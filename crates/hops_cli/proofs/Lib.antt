@@ -9,6 +9,5 @@ pub mod ReportLemmas
 pub mod RunLemmas
 pub mod StepsLeft
 pub mod SubtreeLemmas
-pub mod Transfers
 pub mod WayLemmas
 pub mod WordLemmas

@@ -7,7 +7,6 @@ use Rattle.std.proofs.lemmas.Bool.Decides.{nat_tests}
 use Rattle.std.proofs.lemmas.List.{length-append}
 use Rattle.name_space.specs.Script.{ClientCalls, is_client, most_calls}
 use Rattle.name_space.specs.declared.call.Call.{Call}
-use Rattle.name_space.specs.declared.call.Call.TheVariants as call
 use Rattle.name_space.specs.Call.{is_valid}
 use Rattle.commit_log.specs.declared.note.Note.{Note}
 use Rattle.commit_log.specs.declared.answer.AnswerLine.{AnswerLine}
@@ -16,9 +15,8 @@ use Rattle.hops_base.specs.Ids.{client, node}
 use Rattle.db_state.specs.Settings.{Settings}
 use Rattle.db_state.specs.State.{State, empty_seat, opening_state}
 use Rattle.db_state.specs.Steps.{seat_of, HasNoOpen}
-use Rattle.hops_core.specs.Built.{IsBuilt}
 use Rattle.hops_core.specs.Events.{CanBegin}
-use Rattle.hops_cli.specs.Built.{is_built}
+use Rattle.hops_core.specs.Built.{is_built}
 use Rattle.hops_cli.specs.Turning.{Turn, calls_made, turn_notes, turns_notes, turn_line, turns_lines, IsIdle, IsTurned, IsNew, AreTurned}
 
 -- ---- more turns
@@ -88,21 +86,6 @@ none_turned user calls state lines new = record {
       none = subst (λ (users : List (List ℕ)). HasNoOpen (opening_state (record settings { users = users })) (client 0)) (sym acting) tt;
     }
 
-built_path : (c : Call) → is_built c ≡ true → IsBuilt c
-built_path (call.Mkdirs path) is = refl
-built_path (call.Create path overwrite) is = refl
-built_path (call.Append path) is = absurd (let bad = is in cc)
-built_path (call.Grow path bytes) is = absurd (let bad = is in cc)
-built_path (call.Close path) is = absurd (let bad = is in cc)
-built_path (call.Stat path) is = refl
-built_path (call.List path) is = refl
-built_path (call.Delete path true) is = absurd (let bad = is in cc)
-built_path (call.Delete path false) is = refl
-built_path (call.Rename source target) is = absurd (let bad = is in cc)
-built_path (call.Chmod path mode) is = refl
-built_path (call.SetQuota path names bytes) is = absurd (let bad = is in cc)
-built_path (call.Usage path) is = absurd (let bad = is in cc)
-
 -- the next call can be begun
 pub can_begin : (settings : Settings) (calls : List Call) (count : ℕ) (state : State) (lines : List AnswerLine) (asked : Call) → AreTurned settings calls count state lines → length settings.users ≡ 1 → settings.namenodes ≡ 1
     → count < 65536 → is_valid asked ≡ true → is_built asked ≡ true → CanBegin state (client 0) (count + 1) asked (node 0)
@@ -118,7 +101,7 @@ can_begin settings calls count state lines asked so_far one single few valid bui
         few = omega arith;
         valid = valid;
       };
-      built = built_path asked built;
+      built = built;
     }
 
 counted : (turns : List Turn) (n : ℕ) (all : List Call) → calls_made turns ≡ take n all → n < length all → length turns ≡ n

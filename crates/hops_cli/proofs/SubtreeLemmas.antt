@@ -23,7 +23,7 @@ use Rattle.std.proofs.lemmas.List.{length-append}
 use Rattle.name_space.proofs.PrefixLaws.{entry_at-with_missing}
 use Rattle.commit_log.specs.Kept.{is_gone, takes_subtree}
 use Rattle.db_state.proofs.UnderLaws.{none_next}
-use Rattle.hops_cli.specs.Built.{is_built}
+use Rattle.hops_core.specs.Built.{is_built}
 
 -- of what is gone after the call, nothing lies below another
 abbrev LeavesNone : Namespace → Answered → Type 0

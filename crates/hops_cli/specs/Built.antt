@@ -1,25 +1,10 @@
 -- Which scripts need nothing but what is built. This project's own.
-use Rattle.std.specs.Prelude.{◌≡◌, ℕ, ◌+◌, ◌≤◌, Bool, true, false, not, ◌&&◌, ◌==◌, nat_le, if◌then◌else◌, List, [], length, map, Option, Some, option_map}
+use Rattle.std.specs.Prelude.{◌≡◌, ℕ, ◌+◌, ◌≤◌, Bool, true, not, ◌&&◌, ◌==◌, nat_le, if◌then◌else◌, List, [], length, map, Option, Some, option_map}
 use Rattle.std.specs.List.{list_all, position_from, enumerate_from}
 use Rattle.hops_base.specs.First.{first_some}
 use Rattle.name_space.specs.declared.call.Call.{Call}
-use Rattle.name_space.specs.declared.call.Call.TheVariants as call
 use Rattle.name_space.specs.Script.{ClientCalls, Script}
-
--- the call is of a kind that is built; a delete that may go below a directory is of a kind of its own
-abbrev pub is_built : Call → Bool
-is_built (call.Mkdirs path) = true
-is_built (call.Stat path) = true
-is_built (call.Create path overwrite) = true
-is_built (call.Append path) = false
-is_built (call.Grow path bytes) = false
-is_built (call.Close path) = false
-is_built (call.List path) = true
-is_built (call.Delete path recursive) = not recursive
-is_built (call.Rename source target) = false
-is_built (call.Chmod path mode) = true
-is_built (call.SetQuota path names bytes) = false
-is_built (call.Usage path) = false
+use Rattle.hops_core.specs.Built.{is_built}
 
 -- the number of a client's first call, from 1, of a kind that isn't
 abbrev pub unbuilt_in : List Call → Option ℕ

@@ -10,7 +10,7 @@ use Rattle.hops_cli.specs.declared.words.Command.{Command}
 use Rattle.hops_cli.specs.declared.words.Command.TheVariants.{Run, Gen}
 use Rattle.hops_cli.specs.Built.{unbuilt}
 use Rattle.hops_cli.specs.Run.{IsReportOf}
-use Rattle.hops_cli.specs.Transfer.{HasTaken, HasGiven, IsAtEnd}
+use Rattle.program_io.specs.Transfer.{HasTaken, HasGiven, IsAtEnd}
 use Rattle.hops_cli.specs.declared.status.Status.{Status}
 use Rattle.hops_cli.specs.declared.status.Status.TheVariants.{Done, Usage, BadScript, ReadFault, WriteFault, TooLarge, NoMemory, Unbuilt}
 

@@ -2,6 +2,5 @@ pub mod Built
 pub mod Ends
 pub mod Run
 pub mod Status
-pub mod Transfer
 pub mod Turning
 pub mod Words

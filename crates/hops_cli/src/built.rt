@@ -3,8 +3,10 @@
 ghost use Rattle.std.specs.Prelude.{◌≡◌, ◌≤◌, ◌<◌, length, not, IfSome};
 ghost use Rattle.std.specs.List.{position_from};
 ghost use Rattle.name_space.specs.Script.{most_calls};
-ghost use Rattle.hops_cli.specs.Built.{is_built, unbuilt_in, unbuilt};
+ghost use Rattle.hops_core.specs.Built.{is_built};
+ghost use Rattle.hops_cli.specs.Built.{unbuilt_in, unbuilt};
 
+use hops_core::is_built;
 use name_space::Call;
 use script_text::Script;
 
@@ -41,24 +43,4 @@ fn unbuilt_place(calls: &[Call]) -> Option<usize>
     ensures within { IfSome result (λ place. place < length calls.now) }
 {
     calls.iter().position(|call| !is_built(call))
-}
-
-fn is_built(call: &Call) -> bool
-    ensures { result ≡ is_built call.now }
-{
-    match call {
-        Call::Mkdirs(_)
-        | Call::Create(..)
-        | Call::Stat(_)
-        | Call::List(_)
-        | Call::Chmod(..)
-        | Call::Delete(_, false) => true,
-        Call::Append(_)
-        | Call::Grow(..)
-        | Call::Close(_)
-        | Call::Delete(_, true)
-        | Call::Rename(..)
-        | Call::SetQuota(..)
-        | Call::Usage(_) => false,
-    }
 }

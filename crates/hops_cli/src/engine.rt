@@ -11,7 +11,7 @@ ghost use Rattle.hops_cli.specs.Turning.{IsNew, AreTurned, AreAllTurned, users_i
 use crate::turn::{CLIENT, run_call};
 use commit_log::{AnswerLine, Book};
 use db_state::Settings;
-use hops_base::{NoMemory, StopList, UserList};
+use hops_base::{NoMemory, StopList};
 use hops_core::Core;
 use report_text::{AnswerList, TreeList};
 use script_text::{ClientCalls, Script};
@@ -51,14 +51,9 @@ fn settings_of(alloc: Global, script: &Script) -> Result<Settings, NoMemory>
     requires { IsBuilt script.now }
     ensures { IfOk result (λ settings. settings ≡ record { namenodes = script.now.namenodes; users = users_of script.now; grace = script.now.grace; stops = script.now.stops }) }
 {
-    let mut users = UserList::new(alloc);
-    users.reserve(script.clients().len() as u64)?;
-    for client in script.clients() {
-        users.push(client.user().copy()?);
-    }
     Ok(Settings::new(
         script.namenodes(),
-        users,
+        script.users(alloc)?,
         script.grace(),
         StopList::new(alloc),
     ))

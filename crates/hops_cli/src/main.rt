@@ -22,24 +22,19 @@ ghost use Rattle.script_text.specs.Generator.{most_generated_calls};
 
 mod built;
 mod engine;
-mod give_out;
 mod status;
-mod streams;
-mod take_in;
 mod turn;
 mod words;
 
 use built::unbuilt;
-use give_out::{GivenOut, give_all};
 use hops_base::{NoMemory, Sink, Source};
+use program_io::{GivenOut, InputSource, OutputSink, TakenIn, give_all, take_all, words_given};
 use report_text::{Report, write_report};
 use script_text::{Script, ScriptError, generate, read_script, write_script};
 pub use status::Status;
 use std::alloc::Global;
 use std::process::ExitCode;
-use streams::{InputSource, OutputSink};
-use take_in::{TakenIn, take_all};
-use words::{Command, asked_by, words_given};
+use words::{Command, asked_by};
 
 // The most bytes of a script.
 const SCRIPT_LIMIT: usize = 16_777_216;
@@ -160,10 +155,6 @@ fn answer(rt: &HostRuntime) -> Result<Status, NoMemory> {
     Ok(top(rt.alloc(), &words, &mut source, &mut sink))
 }
 
-#[cfg(test)]
-mod interleaving_tests;
-#[cfg(test)]
-mod interleavings;
 #[cfg(test)]
 mod tests;
 #[cfg(test)]

@@ -6,28 +6,6 @@ ghost use Rattle.std.specs.Str.Parse.{digits_value};
 ghost use Rattle.std.specs.String.{string_bytes};
 ghost use Rattle.hops_cli.specs.Words.{is_digit, is_number, is_number_in, number_at, ended, gen_asked, asked_by};
 
-use hops_base::NoMemory;
-use std::alloc::Global;
-use std::env::{Env, FillError};
-
-// The most bytes of a word of any command.
-const LONGEST_WORD: usize = 64;
-
-/// The words after the program's name. One that is no text or too long for any command is given as one
-/// that no command has.
-pub fn words_given(rt: &impl Env, alloc: Global) -> Result<Vec<String>, NoMemory> {
-    let mut words = Vec::new(alloc);
-    let mut buffer = [0u8; LONGEST_WORD];
-    for place in 1..usize::MAX {
-        match rt.arg(place, &mut buffer) {
-            Ok(count) => words.push(String::from_utf8_lossy(alloc, &buffer[..count])?)?,
-            Err(FillError::TooLong) => words.push(String::new(alloc))?,
-            Err(FillError::NotPresent) => break,
-        }
-    }
-    Ok(words)
-}
-
 /// What the program is asked for.
 #[derive(Clone, Copy, Debug, PartialEq, Eq)]
 pub enum Command {

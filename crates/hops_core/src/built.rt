@@ -1,13 +1,13 @@
 //! Which calls a session carries out.
 
-ghost use Rattle.std.specs.Prelude.{IsTrue, ◌↔◌};
-ghost use Rattle.hops_core.specs.Built.{IsBuilt};
+ghost use Rattle.std.specs.Prelude.{◌≡◌};
+ghost use Rattle.hops_core.specs.Built.{is_built};
 
 use name_space::Call;
 
 /// Whether the call is one that a session carries out. It takes no memory.
 pub fn is_built(call: &Call) -> bool
-    ensures { IsTrue result ↔ IsBuilt call.now }
+    ensures { result ≡ is_built call.now }
 {
     match call {
         Call::Mkdirs(_)

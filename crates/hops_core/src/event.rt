@@ -42,20 +42,20 @@ pub fn happen(core: &mut Core, event: &Event) -> EventAnswer
     ensures { Happens core.old event.now result core.new }
 {
     match event {
-        Event::Begin(client, number, call, node) => begin(core, *client, *number, call, *node),
-        Event::Advance(s, hints) if core.is_open(*s) => {
-            EventAnswer::Advanced(core.advance(*s, hints.as_slice()))
-        }
-        Event::Quit(s) if core.is_open(*s) => {
-            core.quit(*s);
-            EventAnswer::Ended
-        }
-        _ => EventAnswer::Skipped,
+        Event::Begin(client, number, call, node) => try_begin(core, *client, *number, call, *node),
+        Event::Advance(s, hints) => try_advance(core, *s, hints),
+        Event::Quit(s) => try_quit(core, *s),
     }
 }
 
-// Begins a call, if it can be begun.
-fn begin(core: &mut Core, client: ClientNo, number: u32, call: &Call, node: NodeNo) -> EventAnswer
+/// Begins a call, if it can be begun.
+pub fn try_begin(
+    core: &mut Core,
+    client: ClientNo,
+    number: u32,
+    call: &Call,
+    node: NodeNo,
+) -> EventAnswer
     ensures { Happens core.old (Event.Begin client number call.now node) result core.new }
 {
     if !core.can_begin(client, number, call, node) {
@@ -65,6 +65,27 @@ fn begin(core: &mut Core, client: ClientNo, number: u32, call: &Call, node: Node
         Ok(s) => EventAnswer::Opened(s),
         Err(fault) => EventAnswer::Refused(fault),
     }
+}
+
+/// Makes one step of a session, with these hints, if it is open.
+pub fn try_advance(core: &mut Core, s: SessionId, hints: &ItemList<Hint>) -> EventAnswer
+    ensures { Happens core.old (Event.Advance s hints.now) result core.new }
+{
+    if !core.is_open(s) {
+        return EventAnswer::Skipped;
+    }
+    EventAnswer::Advanced(core.advance(s, hints.as_slice()))
+}
+
+/// Ends a session, if it is open.
+pub fn try_quit(core: &mut Core, s: SessionId) -> EventAnswer
+    ensures { Happens core.old (Event.Quit s) result core.new }
+{
+    if !core.is_open(s) {
+        return EventAnswer::Skipped;
+    }
+    core.quit(s);
+    EventAnswer::Ended
 }
 
 /// Makes events in their order, and tells what came of each. Whatever they are, all is as it always is after each of them.

@@ -20,6 +20,7 @@ mod step;
 mod view;
 
 pub use begin_fault::BeginFault;
-pub use event::{Event, EventAnswer, happen, run_events};
+pub use built::is_built;
+pub use event::{Event, EventAnswer, happen, run_events, try_advance, try_begin, try_quit};
 pub use progress::Progress;
 pub use shared::Core;

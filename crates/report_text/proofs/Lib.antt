@@ -1,5 +1,5 @@
 mod Decoding
-mod NoFloat
+pub mod NoFloat
 mod NoteBack
 mod NoteLines
 mod OneText

@@ -76,7 +76,7 @@ no_float_in_exception (exception.NSQuotaExceeded path used limit) = refl
 no_float_in_exception (exception.DSQuotaExceeded path used limit) = refl
 no_float_in_exception (exception.IO why) = rw (no_float_in_why why) refl
 
-no_float_in_reply : (r : Reply) → has_float (reply_data r) ≡ false
+pub no_float_in_reply : (r : Reply) → has_float (reply_data r) ≡ false
 no_float_in_reply (reply.Truth truth) = refl
 no_float_in_reply (reply.Status status) = no_float_in_status status
 no_float_in_reply (reply.Entries children) = rw (no_float_in_map listed_data no_float_in_listed children.items) refl

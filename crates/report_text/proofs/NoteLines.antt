@@ -12,18 +12,18 @@ module _ {X D : Type 0} (f : ℕ × X → D) where
   numbered-push k n [] x e = let same : n ≡ k = omega arith in rw same refl
   numbered-push k n (y ∷ xs) x e = ap (λ rest. f (k, y) ∷ rest) (numbered-push (k + 1) n xs x (omega arith))
 
-  numbered-next : (line : D → List ℕ) (xs : List X) (i : ℕ) (x : X) → i < length xs → x ≡ get_or xs i x
-      → flat_map line (map f (enumerate_from 0 (take (i + 1) xs))) ≡ flat_map line (map f (enumerate_from 0 (take i xs))) ++ line (f (i, x))
-  numbered-next line xs i x h at =
+  numbered-next : (line : D → List ℕ) (k : ℕ) (xs : List X) (i : ℕ) (x : X) → i < length xs → x ≡ get_or xs i x
+      → flat_map line (map f (enumerate_from k (take (i + 1) xs))) ≡ flat_map line (map f (enumerate_from k (take i xs))) ++ line (f (k + i, x))
+  numbered-next line k xs i x h at =
       let counted : length (take i xs) ≡ i = length-take-le i xs (omega arith) in
-      let before = map f (enumerate_from 0 (take i xs)) in
+      let before = map f (enumerate_from k (take i xs)) in
       let more : take (i + 1) xs ≡ take i xs ++ x ∷ [] = take_more xs i x h ∙ ap (λ y. take i xs ++ y ∷ []) (sym at) in
-      let mapped : map f (enumerate_from 0 (take i xs ++ x ∷ [])) ≡ before ++ f (i, x) ∷ [] = numbered-push 0 i (take i xs) x (omega arith) in
-      ap (λ ys. flat_map line (map f (enumerate_from 0 ys))) more ∙ ap (flat_map line) mapped ∙ flat_map-append line before (f (i, x) ∷ []) ∙ ap (λ rest. flat_map line before ++ rest) (append-nil (line (f (i, x))))
+      let mapped : map f (enumerate_from k (take i xs ++ x ∷ [])) ≡ before ++ f (k + i, x) ∷ [] = numbered-push k (k + i) (take i xs) x (omega arith) in
+      ap (λ ys. flat_map line (map f (enumerate_from k ys))) more ∙ ap (flat_map line) mapped ∙ flat_map-append line before (f (k + i, x) ∷ []) ∙ ap (λ rest. flat_map line before ++ rest) (append-nil (line (f (k + i, x))))
 
 -- the line of the next note
-pub notes-next : (notes : List Note) (i : ℕ) (note : Note) → i < length notes → note ≡ get_or notes i note
-    → flat_map line_of (notes_data 0 (take (i + 1) notes)) ≡ flat_map line_of (notes_data 0 (take i notes)) ++ line_of (note_data i note)
+pub notes-next : (first : ℕ) (notes : List Note) (i : ℕ) (note : Note) → i < length notes → note ≡ get_or notes i note
+    → flat_map line_of (notes_data first (take (i + 1) notes)) ≡ flat_map line_of (notes_data first (take i notes)) ++ line_of (note_data (first + i) note)
 notes-next = numbered-next (λ p. note_data p.0 p.1) line_of
 
 -- a text to which a line is added

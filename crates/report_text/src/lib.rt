@@ -7,7 +7,7 @@
 //! It promises that [`report_of`] and [`write_report`] give those very bytes, for every kind of note, key,
 //! cause, answer, reply, refusal and entry, or want memory; and that a [`Report`] has one answer for each
 //! call of its script, by client and call, and paths that rise strictly from `/`. A report is written in one
-//! pass into one buffer.
+//! pass into one buffer. Another text that has such lines adds them by [`add_notes`], [`add_places`] and [`add_line`].
 #![tactic(auto)]
 
 mod answer_form;
@@ -22,4 +22,6 @@ mod report;
 #[cfg(test)]
 mod tests;
 
+pub use lines::{add_counts, add_line, add_notes, add_places};
+pub use reply_form::reply_value;
 pub use report::{AnswerList, Report, TreeList, report_of, write_report};

@@ -1,6 +1,6 @@
 //! The lines of a report, in one buffer.
 
-ghost use Rattle.std.specs.Prelude.{◌≡◌, IfOk, OnOk, ◌++◌, false, map, flat_map};
+ghost use Rattle.std.specs.Prelude.{◌≡◌, IfOk, OnOk, ◌+◌, ◌<◌, ◌^◌, ◌++◌, false, length, map, flat_map};
 ghost use Rattle.serde_json.specs.View.{view};
 ghost use Rattle.serde_json.specs.Written.{has_float};
 ghost use Rattle.report_text.specs.Answers.{answer_data};
@@ -36,12 +36,18 @@ fn head_value(alloc: Global, script: &Script) -> Result<Value, NoMemory>
     Ok(fields.value())
 }
 
-/// Adds a line for each note, numbered from 0.
-pub fn add_notes(alloc: Global, text: &mut Vec<u8>, notes: &[Note]) -> Result<(), NoMemory>
-    ensures { OnOk result (text.new.items ≡ text.old.items ++ flat_map line_of (notes_data 0 notes.now)) }
+/// Adds a line for each note, numbered from the first one's number.
+pub fn add_notes(
+    alloc: Global,
+    text: &mut Vec<u8>,
+    first: u64,
+    notes: &[Note],
+) -> Result<(), NoMemory>
+    requires { first + length notes.now < 2 ^ 64 }
+    ensures { OnOk result (text.new.items ≡ text.old.items ++ flat_map line_of (notes_data first notes.now)) }
 {
-    for (number, note) in notes.iter().enumerate() {
-        add_note(alloc, text, number as u64, note)?;
+    for (i, note) in notes.iter().enumerate() {
+        add_note(alloc, text, first + i as u64, note)?;
     }
     Ok(())
 }
@@ -108,8 +114,8 @@ pub fn add_counts(
     add_line(alloc, text, &row.value())
 }
 
-// Adds the compact text of the value and a newline.
-fn add_line(alloc: Global, text: &mut Vec<u8>, value: &Value) -> Result<(), NoMemory>
+/// Adds the compact text of the value and a newline.
+pub fn add_line(alloc: Global, text: &mut Vec<u8>, value: &Value) -> Result<(), NoMemory>
     requires { has_float (view value.now) ≡ false }
     ensures { OnOk result (text.new.items ≡ text.old.items ++ line_of (view value.now)) }
 {

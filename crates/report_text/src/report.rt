@@ -111,7 +111,7 @@ pub fn report_of(
 {
     let mut text = Vec::new(alloc);
     add_head(alloc, &mut text, script)?;
-    add_notes(alloc, &mut text, book.notes())?;
+    add_notes(alloc, &mut text, 0, book.notes())?;
     add_answers(alloc, &mut text, answers)?;
     add_places(alloc, &mut text, tree)?;
     let (answers, places) = (answers.len() as u64, tree.len() as u64);

@@ -9,9 +9,9 @@ pub mod Literals
 pub mod NoFloat
 mod OneScript
 mod ReadBack
-mod Reading
+pub mod Reading
 pub mod ScriptLaws
-mod ValueFacts
+pub mod ValueFacts
 mod Values
-mod ViewLemmas
+pub mod ViewLemmas
 mod WrittenText

@@ -16,7 +16,7 @@ use hops_base::{NoMemory, Path, PathFault};
 use serde_json::Value;
 use std::alloc::Global;
 
-// The values in an array; another value has none.
+/// The values in an array; another value has none.
 pub fn values_in(value: &Value) -> &[Value]
     ensures { map view result.now ≡ values_in (view value.now) }
 {
@@ -26,7 +26,7 @@ pub fn values_in(value: &Value) -> &[Value]
     }
 }
 
-// The name of a call.
+/// The name of a value that is an array with a text in front: that text. None exactly where there is no such text.
 pub fn name_of(value: &Value) -> Option<&str>
     ensures { option_map (λ name. name.now) result ≡ named_by (view value.now) }
 {
@@ -36,7 +36,7 @@ pub fn name_of(value: &Value) -> Option<&str>
     }
 }
 
-// What stands behind the name of a call.
+/// What stands behind the name of such a value: all but the first value in an array.
 pub fn behind_name(value: &Value) -> &[Value]
     ensures { map view result.now ≡ behind_name (view value.now) }
 {

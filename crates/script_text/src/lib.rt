@@ -10,7 +10,8 @@
 //! wants memory; that a [`Script`] keeps its ranges; that [`write_script`] gives the very bytes of the one
 //! text in which the script is written, which are read as that script, or wants memory; and that
 //! [`generate`] gives the one script of a seed, or wants memory. [`Row`] and [`Fields`] build values of
-//! JSON, whose members stand in the byte order of their keys.
+//! JSON, whose members stand in the byte order of their keys. A text of which a script is a part is read by
+//! [`read_value`] and [`script_in`], and by what looks into values: [`value_at`], [`values_in`] and their like.
 #![tactic(auto)]
 
 mod build;
@@ -31,8 +32,10 @@ mod write;
 
 pub use build::{Fields, Row};
 pub use call_form::call_value;
+pub use call_forms::{behind_name, name_of, values_in};
 pub use fault::{ScriptError, ScriptFault};
 pub use generator::generate;
-pub use read::read_script;
+pub use members::{Members, array_at, array_of, key_count, value_at};
+pub use read::{read_script, read_value, script_in};
 pub use script::{CallList, ClientCalls, ClientList, Script};
 pub use write::{script_value, write_script};

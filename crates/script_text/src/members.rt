@@ -8,17 +8,17 @@ ghost use Rattle.script_text.specs.Json.{values_of, keys_of, as_whole};
 
 use serde_json::{Map, Value};
 
-/// The members of an object.
+/// The members of an object. Of a key that stands twice in its text it has the last value.
 pub type Members = Map<String, Value>;
 
-// The value at a key.
+/// The value at a key. None exactly where there is none.
 pub fn value_at<'a>(members: &'a Members, key: &str) -> Option<&'a Value>
     ensures { option_map (λ value. view value.now) result ≡ get_member key.now (members_view members.now.entries) }
 {
     members.get(key)
 }
 
-// The values of the array at a key. None exactly where there is no array.
+/// The values of the array at a key. None exactly where there is no array.
 pub fn array_at<'a>(members: &'a Members, key: &str) -> Option<&'a [Value]>
     ensures { option_map (λ values. map view values.now) result
         ≡ option_map values_of (option_and_then as_array (get_member key.now (members_view members.now.entries))) }
@@ -29,7 +29,7 @@ pub fn array_at<'a>(members: &'a Members, key: &str) -> Option<&'a [Value]>
     }
 }
 
-// The values of an array. None exactly where it is no array.
+/// The values of an array. None exactly where the value is no array.
 pub fn array_of(value: &Value) -> Option<&[Value]>
     ensures { option_map (λ values. map view values.now) result ≡ option_map values_of (as_array (view value.now)) }
 {
@@ -60,7 +60,7 @@ pub fn whole_at(members: &Members, key: &str) -> Option<u64>
     }
 }
 
-// How many keys there are.
+/// How many keys there are, each counted once.
 pub fn key_count(members: &Members) -> usize
     ensures { result ≡ length (keys_of (members_view members.now.entries)) }
 {

@@ -35,8 +35,8 @@ pub fn read_script(alloc: Global, bytes: &[u8]) -> Result<Script, ScriptError>
     }
 }
 
-// The value that bytes are. None exactly where they are none.
-fn read_value(alloc: Global, bytes: &[u8]) -> Result<Option<Value>, NoMemory>
+/// The value of JSON that bytes are: UTF-8, with arrays and objects nested to 127. None exactly where they are none.
+pub fn read_value(alloc: Global, bytes: &[u8]) -> Result<Option<Value>, NoMemory>
     ensures { IfOk result (λ value. option_map view value ≡ value_of bytes.now) }
 {
     match Value::from_slice(alloc, bytes) {
@@ -46,8 +46,8 @@ fn read_value(alloc: Global, bytes: &[u8]) -> Result<Option<Value>, NoMemory>
     }
 }
 
-// The script that a value says.
-fn script_in(alloc: Global, value: &Value) -> Result<Script, ScriptError>
+/// The script that a value says. Else which rule it breaks first, and where.
+pub fn script_in(alloc: Global, value: &Value) -> Result<Script, ScriptError>
     ensures { IsReadOf (data_fault (view value.now)) (SaysScript (view value.now)) result }
 {
     match value.as_object() {

@@ -1,10 +1,11 @@
 //! Scripts.
 
-ghost use Rattle.std.specs.Prelude.{◌≡◌};
-ghost use Rattle.name_space.specs.Script.{IsScript};
+ghost use Rattle.std.specs.Prelude.{◌≡◌, IfOk};
+ghost use Rattle.name_space.specs.Script.{IsScript, users_of};
 
-use hops_base::{ItemList, StopList, User};
+use hops_base::{ItemList, NoMemory, StopList, User, UserList};
 use name_space::Call;
+use std::alloc::Global;
 use std::marker::Model;
 
 // The most namenodes of a script, clients, calls of a client, and the greatest count of conflicts, beats or commits.
@@ -132,6 +133,18 @@ impl Script {
         ensures script { IsScript self.now }
     {
         self.clients.as_slice()
+    }
+
+    /// The users that the clients act for, by the clients' numbers.
+    pub fn users(&self, alloc: Global) -> Result<UserList, NoMemory>
+        ensures { IfOk result (λ users. users.items ≡ users_of self.now) }
+    {
+        let mut users = UserList::new(alloc);
+        users.reserve(self.clients.len())?;
+        for client in self.clients.as_slice() {
+            users.push(client.user().copy()?);
+        }
+        Ok(users)
     }
 
     /// Which namenodes stop, and at which of their commits.

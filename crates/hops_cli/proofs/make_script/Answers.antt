@@ -1,8 +1,8 @@
 use Rattle.std.proofs.Common.{List, ℕ, [], length, take, refl, sym, subst, ◌∙◌, arith}
 use Rattle.std.proofs.Math.Seq.{take-length}
 use Rattle.hops_cli.specs.Ends.{generated_line}
-use Rattle.hops_cli.specs.Transfer.{HasGiven}
-use Rattle.hops_cli.proofs.Transfers.{HasTaken-none, HasGiven-none}
+use Rattle.program_io.specs.Transfer.{HasGiven}
+use Rattle.program_io.proofs.Transfers.{HasTaken-none, HasGiven-none}
 use Rattle.hops_cli.proofs.make_script.Goals as goal
 
 pub returns-in_default : goal.returns-in_default

@@ -6,9 +6,9 @@ use Rattle.script_text.specs.Faults.{script_fault}
 use Rattle.script_text.specs.declared.fault.ScriptFault.{ScriptFault}
 use Rattle.script_text.specs.declared.fault.ScriptError.{ScriptError}
 use Rattle.script_text.specs.declared.fault.ScriptError.TheVariants.{Bad, NoMemory}
-use Rattle.hops_cli.specs.Transfer.{HasGiven}
+use Rattle.program_io.specs.Transfer.{HasGiven}
 use Rattle.hops_cli.proofs.BuiltLemmas.{built_from}
-use Rattle.hops_cli.proofs.Transfers.{HasGiven-none}
+use Rattle.program_io.proofs.Transfers.{HasGiven-none}
 use Rattle.hops_cli.proofs.run_script.Goals as goal
 
 -- the fault that is told is the first

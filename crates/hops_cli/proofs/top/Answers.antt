@@ -2,7 +2,7 @@ use Rattle.std.proofs.Common.{ℕ, [], Result, refl, sym, subst, ◌∙◌, arit
 use Rattle.hops_cli.specs.declared.status.Status.TheVariants.{Usage}
 use Rattle.hops_cli.specs.declared.words.Command.{Command}
 use Rattle.hops_cli.specs.Ends.{Ends}
-use Rattle.hops_cli.proofs.Transfers.{HasTaken-none, HasGiven-none}
+use Rattle.program_io.proofs.Transfers.{HasTaken-none, HasGiven-none}
 use Rattle.hops_cli.proofs.top.Goals as goal
 
 pub returns-in-Err : goal.returns-in-Err

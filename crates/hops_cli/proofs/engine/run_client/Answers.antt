@@ -5,7 +5,7 @@ use Rattle.name_space.specs.Call.{is_valid}
 use Rattle.commit_log.specs.declared.answer.AnswerLine.{AnswerLine}
 use Rattle.hops_base.specs.Ids.{client}
 use Rattle.db_state.specs.Settings.{Settings}
-use Rattle.hops_cli.specs.Built.{is_built}
+use Rattle.hops_core.specs.Built.{is_built}
 use Rattle.hops_cli.proofs.LoopLemmas.{passes_at, none_turned, can_begin, turned, few_calls}
 use Rattle.hops_cli.proofs.engine.run_client.Goals as goal
 

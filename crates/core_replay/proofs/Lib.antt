@@ -1,0 +1,4 @@
+pub mod EndLaws
+pub mod InputLaws
+pub mod ReadLists
+pub mod ReplayLaws
