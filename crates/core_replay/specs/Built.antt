@@ -9,7 +9,8 @@ use Rattle.core_replay.specs.declared.listed.Listed.TheVariants.{Begin, Advance,
 use Rattle.core_replay.specs.declared.unbuilt.Unbuilt.{Unbuilt}
 use Rattle.core_replay.specs.declared.unbuilt.Unbuilt.TheVariants as unbuilt
 
--- the event is one that can come: a step, the end of a session, or the begin of a call of a kind that is built, or of none
+-- the event needs nothing that isn't built: it is a step, the end of a session, or the begin of a call of a kind that is built, or
+-- of no call
 abbrev pub is_built_event : Script → Listed → Bool
 is_built_event script (Begin client number node) = option_map_or is_built (call_of script client number) true
 is_built_event script (Advance session hints) = true

@@ -82,7 +82,7 @@ hints_in value = option_and_then (λ items. hints_from (values_of items)) (as_ar
 
 -- ---- events, by what stands behind their names
 
--- a client, the number of its call and a namenode
+-- a begin, of a client, the number of its call and a namenode
 abbrev pub begin_from : List Data → Option Listed
 begin_from [] = None
 begin_from (client ∷ []) = None
@@ -91,20 +91,20 @@ begin_from (client ∷ call ∷ node ∷ []) =
     option_and_then (λ (c : ClientNo). option_and_then (λ (q : ℕ). option_map (λ (n : NodeNo). Begin c q n) (node_in node)) (number_in (2 ^ 32) call)) (client_in client)
 begin_from (client ∷ call ∷ node ∷ other ∷ rest) = None
 
--- a session, and hints where there are some
+-- a step, of a session, by hints where there are some
 abbrev pub advance_from : List Data → Option Listed
 advance_from [] = None
 advance_from (session ∷ []) = option_map (λ (s : SessionId). Advance s (hint_list [])) (session_in session)
 advance_from (session ∷ hints ∷ []) = option_and_then (λ (s : SessionId). option_map (λ (items : List Hint). Advance s (hint_list items)) (hints_in hints)) (session_in session)
 advance_from (session ∷ hints ∷ other ∷ rest) = None
 
--- one thing that is made of one value
+-- the event that is made of one value
 abbrev pub from_one : {T : Type 0} → (Data → Option T) → (T → Listed) → List Data → Option Listed
 from_one read make [] = None
 from_one read make (value ∷ []) = option_map make (read value)
 from_one read make (value ∷ other ∷ rest) = None
 
--- nothing
+-- a sweep, of no values
 abbrev pub sweep_from : List Data → Option Listed
 sweep_from [] = Some Sweep
 sweep_from (value ∷ rest) = None

@@ -7,7 +7,7 @@ use hops_base::{ClientNo, Hint, ItemList, NodeNo, SessionId};
 pub enum Listed {
     /// A client begins its call of this number in the script, from 1, at a namenode.
     Begin(ClientNo, u32, NodeNo),
-    /// A session makes one step, with these hints.
+    /// A session makes one step. These hints are handed to it; the core doesn't look at them yet.
     Advance(SessionId, ItemList<Hint>),
     /// A session is given up.
     Quit(SessionId),

@@ -4,7 +4,7 @@
 //! It stands on `hops_core` for what an event does, on `script_text` and `report_text` for the texts, and on `program_io` for
 //! bytes in and out. It promises on [`top`] that each line of notes and of an answer is the core's, event by event in their order;
 //! that what always holds of the core holds after each of them; that the paths at the end are the namespace to which the book leads;
-//! that bytes which are no input are answered by their first fault; and that each failure of a device has its cause.
+//! that bytes which are no input are answered by their first fault; and that each status has its cause.
 #![tactic(auto)]
 
 ghost use Rattle.std.specs.Prelude.{◌≡◌, [], map};

@@ -2,12 +2,14 @@ ghost use Rattle.std.specs.Prelude.{◌≤◌};
 
 use super::*;
 use crate::fault::InputFault;
+use crate::told::{event_value, has_memory};
 use crate::unbuilt::Unbuilt;
 use crate::vectors::{
     DELETE_MEETS_CREATE_LOCK, NAME_APPEARS_BEFORE_LOCK, RANDOM_0, RANDOM_1, RANDOM_2, RANDOM_3,
     RANDOM_4, RANDOM_5, RANDOM_7, SHARED_LOCKS, STAT_SEES_CHANGE, Vector,
 };
 use hops_base::{MemSink, MemSource, SteadySink, SteadySource};
+use hops_core::{BeginFault, EventAnswer, Progress};
 use script_text::ScriptFault;
 use std::process::Abort;
 
@@ -130,6 +132,53 @@ fn one_open_session_a_client(rt: HostRuntime) {
 }
 
 #[test]
+fn no_call_is_begun_again(rt: HostRuntime) {
+    let alloc = rt.alloc();
+    let clients = "[{\"user\":\"ann\",\"calls\":[[\"stat\",\"/\"]]}]";
+    let events = "[[\"begin\",0,1,0],[\"quit\",1],[\"begin\",0,1,0]]";
+    let lines = format!(in alloc;
+        "[0,\"open\",1,0,1,0]\n[\"event\",0,[\"session\",1]]\n[\"event\",1,[\"ok\"]]\n[\"event\",2,[\"skipped\"]]\n{ROOT}[\"end\",1,3,1]\n"
+    ).expect(&rt, "memory");
+    assert_replay(&rt, alloc, &input_of(&rt, alloc, clients, events), &lines);
+}
+
+#[test]
+fn namenodes_are_those_of_the_script(rt: HostRuntime) {
+    let alloc = rt.alloc();
+    let input =
+        "{\"script\":{\"version\":1,\"namenodes\":2,\"clients\":[{\"user\":\"ann\",\"calls\":[[\"stat\",\"/\"]]}]},\"events\":[[\"begin\",0,1,2],[\"begin\",0,1,1]]}";
+    let lines = format!(in alloc;
+        "[\"event\",0,[\"skipped\"]]\n[0,\"open\",1,0,1,1]\n[\"event\",1,[\"session\",1]]\n{ROOT}[\"end\",1,2,1]\n"
+    ).expect(&rt, "memory");
+    assert_replay(&rt, alloc, input, &lines);
+}
+
+// Asserts how the answer of event 0 is told.
+fn assert_told(rt: &impl Abort, alloc: Global, answer: &EventAnswer, line: &str) {
+    if !has_memory(answer) {
+        panic!(rt; "{line}");
+    }
+    let value = event_value(alloc, 0, answer).expect(rt, "memory");
+    let told = value.to_vec(alloc).expect(rt, "memory");
+    assert_eq!(rt; told.as_slice(), line.as_bytes());
+}
+
+#[test]
+fn answers_that_no_event_has_yet(rt: HostRuntime) {
+    let gone = EventAnswer::Refused(BeginFault::NodeGone(5));
+    assert_told(&rt, rt.alloc(), &gone, "[\"event\",0,[\"nodegone\",5]]");
+    let fenced = EventAnswer::Advanced(Progress::Fenced(6));
+    assert_told(&rt, rt.alloc(), &fenced, "[\"event\",0,[\"fenced\",6]]");
+}
+
+#[test]
+fn want_of_memory_is_seen(rt: HostRuntime) {
+    assert!(&rt; !has_memory(&EventAnswer::Refused(BeginFault::NoMemory)));
+    assert!(&rt; !has_memory(&EventAnswer::Advanced(Progress::NoMemory)));
+    assert!(&rt; has_memory(&EventAnswer::Skipped));
+}
+
+#[test]
 fn what_is_not_built(rt: HostRuntime) {
     let clients =
         "[{\"user\":\"ann\",\"calls\":[[\"stat\",\"/\"],[\"append\",\"/a\"],[\"delete\",\"/\",true]]}]";
@@ -242,6 +291,16 @@ fn too_many_bytes(rt: HostRuntime) {
     let mut sink = SteadySink::new(alloc);
     let status = replay_input(alloc, &mut source, &mut sink);
     assert!(&rt; status == Status::TooLarge && sink.written().is_empty());
+}
+
+#[test]
+fn most_bytes(rt: HostRuntime) {
+    let alloc = rt.alloc();
+    let spaces = vec![in alloc; b' '; 67_108_864].expect(&rt, "memory");
+    let mut source = SteadySource::new(spaces);
+    let mut sink = SteadySink::new(alloc);
+    let status = replay_input(alloc, &mut source, &mut sink);
+    assert!(&rt; status == Status::BadInput(InputFault::Form));
 }
 
 // Asserts the number of a status, and the line that tells it.
